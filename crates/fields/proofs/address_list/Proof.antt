@@ -1,0 +1,30 @@
+use denote.Ref.{now}
+use borrow.Author.Tests.{eq-eqb, ne-eqb}
+use borrow.Author.Needs.{needs}
+use Rattle.fields.specs.Field.{listOf}
+use Rattle.fields.proofs.LinkLaws.{list-count}
+use Rattle.fields.proofs.address_list.Statement.{statement}
+use Rattle.fields.proofs.address_list.Tie as tie
+
+octet-requires : tie.Need-octet-requires
+octet-requires c κs = search needs
+
+cast-k : tie.Need-cast-k
+cast-k c = search needs
+
+mul-if1 : tie.Need-mul-if1
+mul-if1 c = search needs
+
+add-if1 : tie.Need-add-if1
+add-if1 c = search needs
+
+returns : tie.Need-returns
+unfolding listOf
+returns c = rw (list-count (now (c .before .before .before .args .part)) (c .before .octet .ensures), eq-eqb _ _ (c .if1 .taken))
+
+returns-2 : tie.Need-returns-2
+unfolding listOf
+returns-2 c = rw (list-count (now (c .before .before .before .args .part)) (c .before .octet .ensures), ne-eqb _ _ (c .if1 .left))
+
+pub address-list-spec : {M : Type 1} → statement M
+address-list-spec = tie.close (tie.spec octet-requires cast-k mul-if1 add-if1 returns returns-2)

@@ -1,0 +1,67 @@
+-- What a TLV behind the first three says, by its type and its information string b.
+-- It is skipped, not well formed, or has the content of a topic behind some octets of b.
+use Prim.Native.Nat.{ℕ}
+use mathlib.Core.List.{List, [], _∷_}
+use mathlib.Core.Bool.{Bool}
+use lib.ListN.{length, getD}
+use lib.Dec.{leb, eqb}
+use Rattle.tally.specs.Tests.{pick, both, all}
+use Rattle.fields.specs.Text.{textOk}
+use Rattle.fields.specs.Device.{deviceOf}
+use Rattle.fields.specs.Link.{linkOk, listOk}
+use Rattle.fields.specs.declared.Field.{Field}
+use Rattle.fields.specs.declared.Field.the-variants.{Skipped, Malformed, Says}
+
+-- the topics; device information of IDs 1 to 4 has its ID for its topic
+abbrev pub portDescription : ℕ
+portDescription = 0
+
+abbrev pub category : ℕ
+category = 1
+
+abbrev pub manufacturer : ℕ
+manufacturer = 2
+
+abbrev pub modelName : ℕ
+modelName = 3
+
+abbrev pub modelNumber : ℕ
+modelNumber = 4
+
+abbrev pub link : ℕ
+link = 5
+
+abbrev pub addressList : ℕ
+addressList = 6
+
+abbrev pub topics : ℕ
+topics = 7
+
+-- T10
+unfoldable pub descriptionOf : List ℕ → Field
+descriptionOf b = pick (both (leb (length b) 255) (textOk b)) (Says portDescription 0) Malformed
+
+-- T7; the content begins with n
+unfoldable pub linkOf : List ℕ → Field
+linkOf b = pick (linkOk b) (Says link 4) Malformed
+
+-- T8; the content is the addresses
+unfoldable pub listOf : List ℕ → Field
+listOf b = pick (listOk b) (Says addressList 5) Malformed
+
+-- T1: E0-27-1A in front
+unfoldable pub isTtc : List ℕ → Bool
+isTtc b = all (eqb (getD b 0 0) 0xE0 ∷ eqb (getD b 1 0) 0x27 ∷ eqb (getD b 2 0) 0x1A ∷ [])
+
+-- by the subtype (T1, T9)
+unfoldable pub ttcOf : List ℕ → Field
+ttcOf b =
+    pick (eqb (getD b 3 0) 1) (deviceOf b)
+    (pick (eqb (getD b 3 0) 2) (linkOf b)
+    (pick (eqb (getD b 3 0) 3) (listOf b) Skipped))
+
+-- by the type (L9)
+unfoldable pub fieldOf : ℕ → List ℕ → Field
+fieldOf kind b =
+    pick (eqb kind 4) (descriptionOf b)
+    (pick (both (eqb kind 127) (isTtc b)) (ttcOf b) Skipped)

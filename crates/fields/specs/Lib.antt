@@ -1,0 +1,5 @@
+-- The definitions of this crate: port description, device information, link information, and what a TLV says.
+pub mod Text
+pub mod Device
+pub mod Link
+pub mod Field

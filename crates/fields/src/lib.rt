@@ -1,0 +1,247 @@
+// Fields: what one TLV behind the first three says, from its own information string and nothing behind it.
+// Port description (type 4) and the TTC fields of subtypes 1 to 3; everything else is skipped.
+ghost use mathlib.Core.Path.{_≡_};
+ghost use Rattle.fields.specs.Text.{charOk, textOk};
+ghost use Rattle.fields.specs.Device.{wantedOf, deviceOf};
+ghost use Rattle.fields.specs.Link.{fourOk, linkOk, namesOf};
+ghost use Rattle.fields.specs.Field.{descriptionOf, linkOf, listOf, isTtc, ttcOf, fieldOf};
+use octets::octet;
+use octets::same_six;
+use octets::six;
+
+// What a field can be about. Topics 1 to 4 are the device information of that ID.
+pub const PORT_DESCRIPTION: usize = 0;
+
+pub const CATEGORY: usize = 1;
+
+pub const MANUFACTURER: usize = 2;
+
+pub const MODEL_NAME: usize = 3;
+
+pub const MODEL_NUMBER: usize = 4;
+
+pub const LINK: usize = 5;
+
+pub const ADDRESS_LIST: usize = 6;
+
+pub const TOPICS: usize = 7;
+
+// What a TLV says: nothing that is read here, something that is not well formed, or the content of a topic,
+// which is its information string without the first `skip` octets.
+pub enum Field {
+    Skipped,
+    Malformed,
+    Says { topic: usize, skip: usize },
+}
+
+// An octet that a port description may have (T10).
+fn printable(b: u8) -> bool
+    ensures { λ r. ⌜ r ≡ charOk b ⌝ }
+{
+    match b {
+        32..=33 | 35..=37 | 39..=59 | 61..=61 | 63..=90 | 95..=95 | 97..=122 => true,
+        _ => false,
+    }
+}
+
+fn is_text(part: &[u8]) -> bool
+    ensures { λ r. ⌜ r ≡ textOk (now (part .entry)) ⌝ }
+{
+    let mut i = 0;
+    while i < part.len() {
+        if !printable(part[i]) {
+            return false;
+        }
+        i += 1;
+    }
+    true
+}
+
+fn description(part: &[u8]) -> Field
+    ensures { λ r. ⌜ r ≡ descriptionOf (now (part .entry)) ⌝ }
+{
+    if part.len() > 255 {
+        return Field::Malformed;
+    }
+    if is_text(part) {
+        Field::Says {
+            topic: PORT_DESCRIPTION,
+            skip: 0,
+        }
+    } else {
+        Field::Malformed
+    }
+}
+
+// What the ID of a device information field asks of its string.
+pub enum Wanted {
+    // a string of 1 to so many octets (T3)
+    Text(u8),
+    // a string of any length: IDs that are not read here, and reserved ones (T4, T5)
+    Free,
+    // nothing: the field is the vendor's (T6)
+    Vendor,
+}
+
+fn wanted_of(id: u8) -> Wanted
+    ensures { λ r. ⌜ r ≡ wantedOf id ⌝ }
+{
+    match id {
+        1 => Wanted::Text(255),
+        2 => Wanted::Text(6),
+        3 | 4 => Wanted::Text(31),
+        255 => Wanted::Vendor,
+        20..=27 | 50..=54 | 80 => Wanted::Free,
+        0 | 5..=19 | 28..=49 | 55..=79 | 81..=254 => Wanted::Free,
+    }
+}
+
+// Device information (T2). L is compared before the string's own length is believed.
+fn device(part: &[u8]) -> Field
+    ensures { λ r. ⌜ r ≡ deviceOf (now (part .entry)) ⌝ }
+{
+    let n = part.len();
+    if n < 5 {
+        return Field::Malformed;
+    }
+    let id = octet(part, 4);
+    let count = octet(part, 5);
+    match wanted_of(id) {
+        Wanted::Vendor => Field::Skipped,
+        Wanted::Free => {
+            if n == 6 + count as usize {
+                Field::Skipped
+            } else {
+                Field::Malformed
+            }
+        }
+        Wanted::Text(most) => {
+            if n != 6 + count as usize {
+                return Field::Malformed;
+            }
+            if count < 1 {
+                return Field::Malformed;
+            }
+            if most < count {
+                return Field::Malformed;
+            }
+            Field::Says {
+                topic: id as usize,
+                skip: 6,
+            }
+        }
+    }
+}
+
+// The count of octets of an interface type or of a port number (T7).
+fn one_to_four(n: usize) -> bool
+    ensures { λ r. ⌜ r ≡ fourOk n ⌝ }
+{
+    if n < 1 {
+        return false;
+    }
+    n <= 4
+}
+
+// Link information (T7): n, interface type, m, port number, k, k addresses, and no octet more.
+fn link_fits(part: &[u8]) -> bool
+    ensures { λ r. ⌜ r ≡ linkOk (now (part .entry)) ⌝ }
+{
+    let n = octet(part, 4) as usize;
+    if !one_to_four(n) {
+        return false;
+    }
+    let m = octet(part, 5 + n) as usize;
+    if !one_to_four(m) {
+        return false;
+    }
+    let k = octet(part, 6 + n + m) as usize;
+    part.len() == 7 + n + m + 6 * k
+}
+
+fn link(part: &[u8]) -> Field
+    ensures { λ r. ⌜ r ≡ linkOf (now (part .entry)) ⌝ }
+{
+    if link_fits(part) {
+        Field::Says {
+            topic: LINK,
+            skip: 4,
+        }
+    } else {
+        Field::Malformed
+    }
+}
+
+// Address list (T8): k, k addresses, and no octet more.
+fn address_list(part: &[u8]) -> Field
+    ensures { λ r. ⌜ r ≡ listOf (now (part .entry)) ⌝ }
+{
+    let k = octet(part, 4) as usize;
+    if part.len() == 5 + 6 * k {
+        Field::Says {
+            topic: ADDRESS_LIST,
+            skip: 5,
+        }
+    } else {
+        Field::Malformed
+    }
+}
+
+// The organization code E0-27-1A (T1).
+fn is_ttc(part: &[u8]) -> bool
+    ensures { λ r. ⌜ r ≡ isTtc (now (part .entry)) ⌝ }
+{
+    if octet(part, 0) != 0xE0 {
+        return false;
+    }
+    if octet(part, 1) != 0x27 {
+        return false;
+    }
+    octet(part, 2) == 0x1A
+}
+
+// A TTC field by its subtype (T1, T9).
+fn ttc(part: &[u8]) -> Field
+    ensures { λ r. ⌜ r ≡ ttcOf (now (part .entry)) ⌝ }
+{
+    let subtype = octet(part, 3);
+    match subtype {
+        1 => device(part),
+        2 => link(part),
+        3 => address_list(part),
+        _ => Field::Skipped,
+    }
+}
+
+// What a TLV of a type says, given its information string.
+pub fn field_of(kind: u8, part: &[u8]) -> Field
+    ensures { λ r. ⌜ r ≡ fieldOf kind (now (part .entry)) ⌝ }
+{
+    match kind {
+        4 => description(part),
+        127 => {
+            if is_ttc(part) {
+                ttc(part)
+            } else {
+                Field::Skipped
+            }
+        }
+        _ => Field::Skipped,
+    }
+}
+
+// Whether the address is one of those in the information string of a link information field (A4).
+pub fn names(part: &[u8], address: [u8; 6]) -> bool
+    ensures { λ r. ⌜ r ≡ namesOf (now (part .entry)) address ⌝ }
+{
+    let n = octet(part, 4) as usize;
+    let m = octet(part, 5 + n) as usize;
+    let k = octet(part, 6 + n + m) as usize;
+    let first = 7 + n + m;
+    for i in 0..k {
+        if same_six(six(part, first + 6 * i), address) {
+            return true;
+        }
+    }
+    false
+}

@@ -1,0 +1,46 @@
+-- Laws of addresses: the test for sameness says what it should, and what the loop over six octets cites.
+use Prim.Native.Nat.{ℕ, _+_, _<_, _≤_}
+use mathlib.Core.Path.{_≡_, refl, ap₂}
+use mathlib.Core.List.{List, [], _∷_}
+use mathlib.Core.Bool.{Bool, true, false}
+use native.Mathlib.Omega.{arith}
+use borrow.Author.Tests.{eq-eqb, eqb-true}
+use native.Mathlib.Numerals.{add-one}
+use lib.ListN.{length, drop, getD, drop-of-length-le, List·getD-eq-default}
+use lib.Seq.{drop-cons}
+use lib.Dec.{eqb}
+use Rattle.tally.specs.Tests.{both}
+use Rattle.tally.proofs.TestsLaws.{both-true}
+use Rattle.octets.specs.Address.{sixAt, sameOctets}
+
+pub same-refl : (a : List ℕ) → sameOctets a a ≡ true
+unfolding sameOctets
+same-refl [] = refl
+same-refl (x ∷ a) = rw (eq-eqb x x refl) (same-refl a)
+
+pub same-equal : (a b : List ℕ) → sameOctets a b ≡ true → a ≡ b
+unfolding sameOctets
+same-equal [] [] e = refl
+same-equal [] (y ∷ b) e = let z : _≡_ {A = Bool} false true = e in cc
+same-equal (x ∷ a) [] e = let z : _≡_ {A = Bool} false true = e in cc
+same-equal (x ∷ a) (y ∷ b) e =
+    let p = both-true (eqb x y) (sameOctets a b) e in
+    ap₂ (λ (u : ℕ) (l : List ℕ). u ∷ l) (eqb-true x y (p .0)) (same-equal a b (p .1))
+
+-- the loop over two strings: one octet of each, and the end
+module _ (a b : List ℕ) (i : ℕ) where
+  pub same-step : i < length a → i < length b
+      → sameOctets (drop i a) (drop i b) ≡ both (eqb (getD a i 0) (getD b i 0)) (sameOctets (drop (i + 1) a) (drop (i + 1) b))
+  unfolding sameOctets
+  same-step h k = rw (add-one i, drop-cons a i 0 h, drop-cons b i 0 k)
+
+  pub same-end : length a ≤ i → length b ≤ i → sameOctets (drop i a) (drop i b) ≡ true
+  unfolding sameOctets
+  same-end h k = rw (drop-of-length-le a h, drop-of-length-le b k)
+
+-- past the end there are six zeros
+pub six-past : (s : List ℕ) (at : ℕ) → length s ≤ at → sixAt s at ≡ 0 ∷ 0 ∷ 0 ∷ 0 ∷ 0 ∷ 0 ∷ []
+unfolding sixAt
+six-past s at h =
+    let z : (i : ℕ) → getD s (at + i) 0 ≡ 0 = λ i. List·getD-eq-default s 0 (omega arith) in
+    rw (List·getD-eq-default s 0 h, z 1, z 2, z 3, z 4, z 5)

@@ -1,0 +1,44 @@
+-- Laws of parts of a text: a part as a callee has it, and a part of a part.
+use Prim.Native.Nat.{ℕ, zero, suc, _+_, _-_, _<_, _≤_}
+use mathlib.Core.Path.{_≡_, sym, ap, ap₂, _∙_}
+use mathlib.Core.List.{List, [], _∷_}
+use native.Mathlib.Omega.{arith}
+use native.Mathlib.Nat.{add-sub-cancel-left}
+use lib.ListN.{length, take, drop, getD, length-drop}
+use lib.Seq.{take-nil, take-all, take-take, drop-drop, getD-take, getD-drop}
+
+-- &s[a..a + n] and &s[a..]
+pub part-is : (s : List ℕ) (a n : ℕ) → take (a + n - a) (drop a s) ≡ take n (drop a s)
+part-is s a n = ap (λ (k : ℕ). take k (drop a s)) (add-sub-cancel-left a n)
+
+pub part-from : (s : List ℕ) (a : ℕ) → take (length s - a) (drop a s) ≡ drop a s
+part-from s a = take-all (length s - a) (drop a s) (omega (arith, length-drop a s))
+
+pub drop-take : (j n : ℕ) (l : List ℕ) → drop j (take n l) ≡ take (n - j) (drop j l)
+drop-take zero n l =
+    let e : n ≡ n - 0 = omega arith in
+    ap (λ (k : ℕ). take k l) e
+drop-take (suc j) zero [] = sym (take-nil (zero - suc j))
+drop-take (suc j) (suc n) [] = sym (take-nil (suc n - suc j))
+drop-take (suc j) zero (x ∷ l) =
+    let e : 0 ≡ 0 - suc j = omega arith in
+    ap (λ (k : ℕ). take k (drop j l)) e
+drop-take (suc j) (suc n) (x ∷ l) =
+    let e : n - j ≡ suc n - suc j = omega arith in
+    drop-take j n l ∙ ap (λ (k : ℕ). take k (drop j l)) e
+
+-- inside the part of s from a for l octets
+module _ (s : List ℕ) (a l : ℕ) where
+  pub part-at : (i : ℕ) {j : ℕ} → i < l → a + i ≡ j → getD (take l (drop a s)) i 0 ≡ getD s j 0
+  part-at i h q = getD-take l (drop a s) i 0 h ∙ getD-drop a s i 0 ∙ ap (λ (k : ℕ). getD s k 0) q
+
+  pub part-of-part : (i n : ℕ) {j : ℕ} → i + n ≤ l → a + i ≡ j → take n (drop i (take l (drop a s))) ≡ take n (drop j s)
+  part-of-part i n h q =
+      ap (take n) (drop-take i l (drop a s))
+      ∙ take-take n (l - i) (drop i (drop a s)) (omega arith)
+      ∙ ap (take n) (drop-drop i a s ∙ ap (λ (k : ℕ). drop k s) q)
+
+  pub rest-of-part : (i n : ℕ) {j : ℕ} → l ≡ i + n → a + i ≡ j → drop i (take l (drop a s)) ≡ take n (drop j s)
+  rest-of-part i n h q =
+      let e : l - i ≡ n = omega arith in
+      drop-take i l (drop a s) ∙ ap₂ take e (drop-drop i a s ∙ ap (λ (k : ℕ). drop k s) q)

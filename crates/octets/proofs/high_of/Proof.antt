@@ -1,0 +1,15 @@
+use Prim.Native.Nat.{_/_}
+use native.Mathlib.Omega.{arith}
+use lib.Bits.{mask-lt}
+use Rattle.octets.proofs.HeaderLaws.{high-bits}
+use Rattle.octets.proofs.high_of.Statement.{statement}
+use Rattle.octets.proofs.high_of.Tie as tie
+
+cast-result : tie.Need-cast-result
+cast-result c = omega (arith, mask-lt (c .args .len / 256) 1)
+
+returns : tie.Need-returns
+returns c = high-bits (c .args .kind) (c .args .len)
+
+pub high-of-spec : {M : Type 1} → statement M
+high-of-spec = tie.close (tie.spec cast-result returns)

@@ -1,0 +1,14 @@
+use native.Mathlib.Omega.{arith}
+use lib.Bits.{mask-lt}
+use Rattle.octets.proofs.HeaderLaws.{length-bits}
+use Rattle.octets.proofs.len_of.Statement.{statement}
+use Rattle.octets.proofs.len_of.Tie as tie
+
+cast-result : tie.Need-cast-result
+cast-result c = omega (arith, mask-lt (c .args .hi) 1)
+
+returns : tie.Need-returns
+returns c = length-bits (c .args .hi) (c .args .lo) (omega arith)
+
+pub len-of-spec : {M : Type 1} → statement M
+len-of-spec = tie.close (tie.spec cast-result returns)

@@ -1,0 +1,14 @@
+use Prim.Native.Nat.{_*_, _%_, _^_}
+use mathlib.Core.Path.{_≡_}
+use native.Mathlib.Omega.{arith}
+use lib.Bits.{or-shifted}
+use Rattle.octets.proofs.pair.Statement.{statement}
+use Rattle.octets.proofs.pair.Tie as tie
+
+returns : tie.Need-returns
+returns c =
+    let d : c .args .hi * 256 % 2 ^ 16 ≡ c .args .hi * 256 = omega arith in
+    rw d (or-shifted (c .args .hi) 8 (c .args .lo) (omega arith))
+
+pub pair-spec : {M : Type 1} → statement M
+pair-spec = tie.close (tie.spec returns)

@@ -1,0 +1,14 @@
+-- Several octets as one number, high octet first.
+use Prim.Native.Nat.{ℕ, _+_, _*_}
+use mathlib.Core.List.{List, [], _∷_}
+
+abbrev pub pairOf : ℕ → ℕ → ℕ
+pairOf hi lo = hi * 256 + lo
+
+-- with v for the octets in front
+unfoldable pub valueFrom : ℕ → List ℕ → ℕ
+valueFrom v [] = v
+valueFrom v (x ∷ l) = valueFrom (v * 256 + x) l
+
+abbrev pub valueOf : List ℕ → ℕ
+valueOf l = valueFrom 0 l

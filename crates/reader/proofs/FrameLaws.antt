@@ -1,0 +1,40 @@
+-- Laws of the frame: the answer on a frame by whether it fits, and what a valid one has (A5).
+use Prim.Native.Nat.{ℕ, _≤_}
+use mathlib.Core.Path.{_≡_, refl, ap, _∙_}
+use mathlib.Core.List.{List, [], _∷_}
+use mathlib.Core.Bool.{Bool, true, false}
+use borrow.Author.Tests.{leb-true}
+use lib.ListN.{length, drop, getD}
+use lib.Dec.{leb, eqb}
+use Rattle.tally.specs.Tests.{pick}
+use Rattle.tally.proofs.TestsLaws.{held}
+use Rattle.octets.specs.Address.{sixAt}
+use Rattle.reader.specs.Reading.{refusedReading, readingOf}
+use Rattle.reader.specs.Meaning.{refused, answerOf, meant}
+use Rattle.reader.specs.Frame.{destinationOk, frameOk, onFrame, ReadsFrame}
+use Rattle.reader.proofs.MeaningLaws.{reading-means}
+use Rattle.reader.specs.declared.reading.Reading.{Reading}
+
+pub frame-size : (f : List ℕ) → frameOk f ≡ true → (14 ≤ length f) × (length f ≤ 1514)
+unfolding frameOk
+frame-size f e =
+    let h = held (leb 14 (length f) ∷ leb (length f) 1514 ∷ eqb (getD f 12 0) 0x88 ∷ eqb (getD f 13 0) 0xCC ∷ destinationOk (sixAt f 0) ∷ []) e in
+    (leb-true 14 (length f) (h .0), leb-true (length f) 1514 (h .1 .0))
+
+module _ {A : Type 0} (three : A) (answer : List ℕ → A) (f : List ℕ) where
+  pub on-good : frameOk f ≡ true → onFrame three answer f ≡ answer (drop 14 f)
+  unfolding onFrame
+  on-good e = rw e
+
+  pub on-bad : frameOk f ≡ false → onFrame three answer f ≡ three
+  unfolding onFrame
+  on-bad e = rw e
+
+-- the one answer on a frame means what it should
+pub frame-exactly : (f : List ℕ) {r : Reading} → r ≡ onFrame (refusedReading 3) readingOf f → ReadsFrame f r
+unfolding onFrame
+frame-exactly f e = record { exact = e; means = ap (meant (drop 14 f)) e ∙ go (frameOk f) }
+  where
+    go : (b : Bool) → meant (drop 14 f) (pick b (readingOf (drop 14 f)) (refusedReading 3)) ≡ pick b (answerOf (drop 14 f)) (refused 3)
+    go true = reading-means (drop 14 f)
+    go false = refl

@@ -1,0 +1,210 @@
+-- The reading means the answer of the rules: verdict, texts, link information and address list.
+use Prim.{Unit, tt}
+use Prim.Native.Nat.{ℕ, zero, suc, _+_, _-_, _*_, _<_, _≤_}
+use mathlib.Core.Path.{_≡_, refl, sym, ap, _∙_}
+use mathlib.Core.List.{List, [], _∷_, map}
+use mathlib.Core.Bool.{Bool, true, false, not}
+use mathlib.Core.Option.{some}
+use native.Mathlib.Omega.{arith}
+use borrow.Author.Tests.{eqb-true, eq-eqb, ne-eqb, lt-leb}
+use lib.ListN.{length, drop, getD, length-drop}
+use lib.Seq.{getD-drop, length-take-le}
+use lib.Dec.{leb, eqb}
+use Rattle.tally.specs.Tests.{pick}
+use Rattle.octets.proofs.PartLaws.{part-at, part-of-part, rest-of-part}
+use Rattle.fields.specs.Link.{typeCount, numberCount, addressCount, linkOk}
+use Rattle.fields.specs.Field.{portDescription, category, manufacturer, modelName, modelNumber, link, addressList, topics, fieldOf}
+use Rattle.fields.specs.declared.Field.{Field}
+use Rattle.fields.specs.declared.Field.the-variants.{Skipped, Malformed, Says}
+use Rattle.fields.proofs.LinkLaws.{link-has}
+use Rattle.fields.proofs.FieldLaws.{Fits, field-fits}
+use Rattle.reader.specs.Walk.{Tlv, Placed, walk}
+use Rattle.reader.specs.Extent.{portLength, restOf, extentOf}
+use Rattle.reader.specs.Found.{nothing, markOf, gather, htipIn}
+use Rattle.reader.specs.Reading.{Ready, linkAt, listAt, foundIn, descriptionAt, readingAt, readingOf}
+use Rattle.reader.specs.Meaning.{onField, contents, wellFormed, htipOf, linkIn, firstLink, firstList, tlvsIn, saidIn, answerAt, answerOf, linkMeant, listMeant, saidBy, meant, Reads}
+use Rattle.reader.proofs.ExtentLaws.{good, good-port}
+use Rattle.reader.proofs.MarkLaws.{AllIn, walk-in, textAt, upTo2, Means, topic-means, gather-formed}
+use Rattle.reader.specs.declared.extent.Extent.{Extent}
+use Rattle.reader.specs.declared.extent.Extent.the-variants.{Refused, Octets}
+use Rattle.reader.specs.declared.found.Mark.{Mark}
+use Rattle.reader.specs.declared.found.Found.{Found}
+use Rattle.reader.specs.declared.reading.Description.{Description}
+use Rattle.reader.specs.declared.reading.Reading.{Reading}
+
+-- The verdict
+
+once : (n : ℕ) → eqb (upTo2 n) 1 ≡ eqb n 1
+once zero = refl
+once (suc zero) = refl
+once (suc (suc n)) = sym (ne-eqb (suc (suc n)) 1 (λ e. omega arith))
+
+most-once : (n : ℕ) → leb (upTo2 n) 1 ≡ leb n 1
+most-once zero = refl
+most-once (suc zero) = refl
+most-once (suc (suc n)) = sym (lt-leb (suc (suc n)) 1 (omega arith))
+
+not-not : (b : Bool) → not (not b) ≡ b
+not-not true = refl
+not-not false = refl
+
+module _ (s : List ℕ) (ps : List Placed) (i : AllIn s ps) where
+  abbrev ts : List Tlv
+  ts = map (λ p. p .tlv) ps
+
+  abbrev found : Found
+  found = gather nothing ps
+
+  htip-means : htipIn found ≡ htipOf ts
+  unfolding htipIn htipOf
+  htip-means =
+      let m : (t : ℕ) → t < topics → Means s (markOf t found) (contents t ts) = λ t h. topic-means s t ps h i in
+      let n : (t : ℕ) → ℕ = λ t. length (contents t ts) in
+      rw (
+        gather-formed nothing ps,
+        not-not (wellFormed ts),
+        m category (omega arith) .count,
+        m modelNumber (omega arith) .count,
+        m manufacturer (omega arith) .count,
+        m modelName (omega arith) .count,
+        once (n category),
+        once (n modelNumber),
+        most-once (n manufacturer),
+        most-once (n modelName),
+      )
+
+-- Link information
+
+-- what the content of a well formed link information has, with its counts
+pub record LinkContent (c : List ℕ) (n m k : ℕ) : Type 0 where
+  pub typed : getD c 0 0 ≡ n
+  pub numbered : getD c (1 + n) 0 ≡ m
+  pub counted : getD c (2 + n + m) 0 ≡ k
+  pub ends : length c ≡ 3 + n + m + 6 * k
+
+link-content : (b : List ℕ) → linkOk b ≡ true → LinkContent (drop 4 b) (typeCount b) (numberCount b) (addressCount b)
+link-content b e =
+    let n = typeCount b in
+    let m = numberCount b in
+    let place : (i j : ℕ) → 4 + i ≡ j → getD (drop 4 b) i 0 ≡ getD b j 0 = λ i j q. getD-drop 4 b i 0 ∙ ap (λ (k : ℕ). getD b k 0) q in
+    record {
+      typed = place 0 4 refl;
+      numbered = place (1 + n) (5 + n) (omega arith);
+      counted = place (2 + n + m) (6 + n + m) (omega arith);
+      ends = length-drop 4 b ∙ omega (arith, link-has b e .ends);
+    }
+
+-- every content of the topic is one of a well formed link information
+abbrev AllLinked : List (List ℕ) → Type 0
+AllLinked [] = Unit {0}
+AllLinked (c ∷ cs) = ((n : ℕ) × ((m : ℕ) × ((k : ℕ) × LinkContent c n m k))) × AllLinked cs
+
+field-linked : (b : List ℕ) (x : Field) (more : List (List ℕ)) → Fits b x → AllLinked more → AllLinked (onField x link b more)
+field-linked b Skipped more h i = i
+field-linked b Malformed more h i = i
+field-linked b (Says topic skip) more h i = go (eqb link topic) refl
+  where
+    go : (t : Bool) → eqb link topic ≡ t → AllLinked (pick t (drop skip b ∷ more) more)
+    go true e =
+        let w = h .linked (sym (eqb-true link topic e)) in
+        let c : LinkContent (drop skip b) (typeCount b) (numberCount b) (addressCount b) = rw (w .1) (link-content b (w .0)) in
+        ((typeCount b, (numberCount b, (addressCount b, c))), i)
+    go false e = i
+
+contents-linked : (ts : List Tlv) → AllLinked (contents link ts)
+unfolding contents
+contents-linked [] = tt
+contents-linked (t ∷ ts) =
+    field-linked (t .body) (fieldOf (t .kind) (t .body)) (contents link ts) (field-fits (t .body) (t .kind)) (contents-linked ts)
+
+-- a topic that was met has a mark that was set
+met : {s : List ℕ} {m : Mark} {c : List ℕ} {cs : List (List ℕ)} → Means s m (c ∷ cs) → eqb (m .times) 0 ≡ false
+met {m = m} {cs = cs} i = go (length cs) (i .count)
+  where
+    go : (n : ℕ) → m .times ≡ upTo2 (suc n) → eqb (m .times) 0 ≡ false
+    go zero q = rw q
+    go (suc n) q = rw q
+
+table-means : (s : List ℕ) (m : Mark) (n k j : ℕ) → eqb (m .times) 0 ≡ false → m .start + m .len ≤ length s → LinkContent (textAt s m) n k j
+    → linkMeant s (linkAt s m) ≡ some (linkIn (textAt s m) (getD (textAt s m) 0 0) (getD (textAt s m) (1 + getD (textAt s m) 0 0) 0))
+unfolding linkAt
+table-means s m n k j t h c =
+    let a = m .start in
+    let l = m .len in
+    let size : l ≡ 3 + n + k + 6 * j = sym (length-take-le l (drop a s) (omega (arith, length-drop a s))) ∙ c .ends in
+    let e0 : getD s a 0 ≡ n = sym (part-at s a l 0 (omega arith) (omega arith)) ∙ c .typed in
+    let e1 : getD s (a + 1 + n) 0 ≡ k = sym (part-at s a l (1 + n) (omega arith) (omega arith)) ∙ c .numbered in
+    let e2 : getD s (a + 2 + n + k) 0 ≡ j = sym (part-at s a l (2 + n + k) (omega arith) (omega arith)) ∙ c .counted in
+    rw (
+      t,
+      e0,
+      e1,
+      e2,
+      c .typed,
+      c .numbered,
+      part-of-part s a l 1 n {j = a + 1} (omega arith) refl,
+      part-of-part s a l (2 + n) k {j = a + 2 + n} (omega arith) (omega arith),
+      rest-of-part s a l (3 + n + k) (6 * j) {j = a + 3 + n + k} size (omega arith),
+    )
+
+link-means : (s : List ℕ) (m : Mark) (cs : List (List ℕ)) → AllLinked cs → Means s m cs → linkMeant s (linkAt s m) ≡ firstLink cs
+unfolding linkAt
+link-means s m [] l i = rw (eq-eqb (m .times) 0 (i .count))
+link-means s m (c ∷ cs) l i =
+    let w = l .0 in
+    let here : LinkContent (textAt s m) (w .0) (w .1 .0) (w .1 .1 .0) = rw (i .text) (w .1 .1 .1) in
+    table-means s m (w .0) (w .1 .0) (w .1 .1 .0) (met i) (i .inside) here
+    ∙ ap (λ (x : List ℕ). some (linkIn x (getD x 0 0) (getD x (1 + getD x 0 0) 0))) (i .text)
+
+list-means : (s : List ℕ) (m : Mark) (cs : List (List ℕ)) → Means s m cs → listMeant s (listAt m) ≡ firstList cs
+unfolding listAt
+list-means s m [] i = rw (eq-eqb (m .times) 0 (i .count))
+list-means s m (c ∷ cs) i = rw (met i) (ap some (i .text))
+
+-- The whole answer
+
+rest-in : (s : List ℕ) → AllIn s (restOf s .tlvs)
+rest-in s = walk-in s (drop (15 + portLength s) s) 0 (15 + portLength s) refl
+
+pub marks-inside : (s : List ℕ) (topic : ℕ) → topic < topics → markOf topic (foundIn s) .start + markOf topic (foundIn s) .len ≤ length s
+marks-inside s topic h = topic-means s topic (restOf s .tlvs) h (rest-in s) .inside
+
+said-means : (s : List ℕ) → saidBy s (descriptionAt s (portLength s) (foundIn s)) ≡ saidIn s (tlvsIn s)
+said-means s =
+    let m : (t : ℕ) → t < topics → Means s (markOf t (foundIn s)) (contents t (tlvsIn s)) = λ t h. topic-means s t (restOf s .tlvs) h (rest-in s) in
+    rw (
+      m portDescription (omega arith) .text,
+      m category (omega arith) .text,
+      m manufacturer (omega arith) .text,
+      m modelName (omega arith) .text,
+      m modelNumber (omega arith) .text,
+      link-means s (markOf link (foundIn s)) (contents link (tlvsIn s)) (contents-linked (tlvsIn s)) (m link (omega arith)),
+      list-means s (markOf addressList (foundIn s)) (contents addressList (tlvsIn s)) (m addressList (omega arith)),
+    )
+
+pub reading-means : (s : List ℕ) → meant s (readingOf s) ≡ answerOf s
+unfolding readingOf answerOf
+reading-means s = go (extentOf s)
+  where
+    go : (x : Extent) → meant s (readingAt x s) ≡ answerAt x s
+    go (Refused n) = refl
+    go (Octets e) = rw (htip-means s (restOf s .tlvs) (rest-in s), said-means s)
+
+-- the one answer means what it should
+pub reads-exactly : (s : List ℕ) {r : Reading} → r ≡ readingOf s → Reads s r
+reads-exactly s e = record { exact = e; means = ap (meant s) e ∙ reading-means s }
+
+-- what the code has in hand of a valid LLDPDU: its length, L of TLV 2, and what was gathered
+module _ (s : List ℕ) {e p : ℕ} {f : Found} (v : extentOf s ≡ Octets e) (q : p ≡ portLength s) (g : f ≡ gather nothing (walk (drop (15 + p) s) 0 (15 + p) .tlvs)) where
+  gathered-is : f ≡ foundIn s
+  gathered-is = g ∙ ap (λ (n : ℕ). gather nothing (walk (drop (15 + n) s) 0 (15 + n) .tlvs)) q
+
+  pub ready : Ready s p f
+  ready =
+      let port = good-port (good s e v) in
+      let inside = marks-inside s link (omega arith) in
+      rw gathered-is (record { least = omega (arith, q); most = omega (arith, q); linked = omega arith })
+
+  pub assembled : {h : Bool} {d : Description} → h ≡ htipIn f → d ≡ descriptionAt s p f → record { extent = Octets e; htip = h; description = d } ≡ readingOf s
+  unfolding readingOf
+  assembled {h} {d} x y = rw (v, x, y, gathered-is, q)

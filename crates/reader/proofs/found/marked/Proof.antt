@@ -1,0 +1,15 @@
+use borrow.Author.Tests.{eq-eqb, ne-eqb}
+use Rattle.reader.specs.Found.{markedAt}
+use Rattle.reader.proofs.found.marked.Statement.{statement}
+use Rattle.reader.proofs.found.marked.Tie as tie
+
+returns : tie.Need-returns
+unfolding markedAt
+returns c = rw (eq-eqb _ _ (c .if1 .taken))
+
+returns-2 : tie.Need-returns-2
+unfolding markedAt
+returns-2 c = rw (ne-eqb _ _ (c .if1 .left))
+
+pub marked-spec : {M : Type 1} → statement M
+marked-spec = tie.close (tie.spec returns returns-2)

@@ -1,0 +1,14 @@
+use denote.Ref.{now}
+use borrow.Author.Needs.{needs}
+use lib.Seq.{take-all}
+use Rattle.reader.proofs.naming.number_of.Statement.{statement}
+use Rattle.reader.proofs.naming.number_of.Tie as tie
+
+value-of-requires : tie.Need-value-of-requires
+value-of-requires c κs = search needs
+
+returns : tie.Need-returns
+returns c = rw (c .value-of .ensures, take-all 4 (now (c .before .before .args .part)) (c .before .before .pre))
+
+pub number-of-spec : {M : Type 1} → statement M
+number-of-spec = tie.close (tie.spec value-of-requires returns)

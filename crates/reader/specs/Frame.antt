@@ -1,0 +1,41 @@
+-- A frame: when its length, destination and type are as they should be (F1 to F3), and the answer on it (A5).
+-- Refusal 3 is given exactly where they are not (R3); else the answer is that on the octets from 14 on.
+use Prim.Native.Nat.{ℕ}
+use mathlib.Core.Path.{_≡_}
+use mathlib.Core.List.{List, [], _∷_}
+use mathlib.Core.Bool.{Bool}
+use lib.ListN.{length, drop, getD}
+use lib.Dec.{leb, eqb}
+use Rattle.tally.specs.Tests.{pick, either, all}
+use Rattle.octets.specs.Address.{sixAt, sameOctets}
+use Rattle.reader.specs.Reading.{refusedReading, readingOf}
+use Rattle.reader.specs.Meaning.{refused, answerOf, meant}
+use Rattle.reader.specs.declared.reading.Reading.{Reading}
+
+-- FF-FF-FF-FF-FF-FF and 01-80-C2-00-00-0E (F2)
+abbrev pub everyone : List ℕ
+everyone = 0xFF ∷ 0xFF ∷ 0xFF ∷ 0xFF ∷ 0xFF ∷ 0xFF ∷ []
+
+abbrev pub nearest : List ℕ
+nearest = 0x01 ∷ 0x80 ∷ 0xC2 ∷ 0x00 ∷ 0x00 ∷ 0x0E ∷ []
+
+abbrev pub destinationOk : List ℕ → Bool
+destinationOk a = either (sameOctets a everyone) (sameOctets a nearest)
+
+unfoldable pub frameOk : List ℕ → Bool
+frameOk f =
+    all (leb 14 (length f)
+    ∷ leb (length f) 1514
+    ∷ eqb (getD f 12 0) 0x88
+    ∷ eqb (getD f 13 0) 0xCC
+    ∷ destinationOk (sixAt f 0)
+    ∷ [])
+
+-- what is answered with refusal 3, or what is answered of the LLDPDU
+unfoldable pub onFrame : {A : Type 0} → A → (List ℕ → A) → List ℕ → A
+onFrame three answer f = pick (frameOk f) (answer (drop 14 f)) three
+
+-- The contract of the reader on a frame: this answer and no other, and it means what the rules say
+pub record ReadsFrame (f : List ℕ) (r : Reading) : Type 0 where
+  pub exact : r ≡ onFrame (refusedReading 3) readingOf f
+  pub means : meant (drop 14 f) r ≡ onFrame (refused 3) answerOf f

@@ -1,0 +1,56 @@
+// A whole frame: its length, destination and type, then the LLDPDU behind them.
+// The parts of an answer count from the first octet of the LLDPDU, which is octet 14 of the frame.
+ghost use mathlib.Core.Path.{_≡_};
+ghost use Rattle.reader.specs.Frame.{frameOk, onFrame, ReadsFrame};
+ghost use Rattle.reader.specs.Outline.{refusedOutline, outlineOf};
+use crate::outline::Outline;
+use crate::outline::outline_lldpdu;
+use crate::outline::refused_outline;
+use crate::reading::Reading;
+use crate::reading::read_lldpdu;
+use crate::reading::refused_reading;
+use octets::octet;
+use octets::same_six;
+use octets::six;
+
+// Refusal 3 is given exactly where this is false (F1, F2, F3).
+fn frame_fits(f: &[u8]) -> bool
+    ensures { λ r. ⌜ r ≡ frameOk (now (f .entry)) ⌝ }
+{
+    if f.len() < 14 {
+        return false;
+    }
+    if f.len() > 1514 {
+        return false;
+    }
+    if octet(f, 12) != 0x88 {
+        return false;
+    }
+    if octet(f, 13) != 0xCC {
+        return false;
+    }
+    if same_six(six(f, 0), [0xFF, 0xFF, 0xFF, 0xFF, 0xFF, 0xFF]) {
+        return true;
+    }
+    same_six(six(f, 0), [0x01, 0x80, 0xC2, 0x00, 0x00, 0x0E])
+}
+
+pub fn outline_frame(f: &[u8]) -> Outline
+    ensures { λ r. ⌜ r ≡ onFrame (refusedOutline 3) outlineOf (now (f .entry)) ⌝ }
+{
+    if frame_fits(f) {
+        outline_lldpdu(&f[14..])
+    } else {
+        refused_outline(3)
+    }
+}
+
+pub fn read_frame(f: &[u8]) -> Reading
+    ensures { λ r. ⌜ ReadsFrame (now (f .entry)) r ⌝ }
+{
+    if frame_fits(f) {
+        read_lldpdu(&f[14..])
+    } else {
+        refused_reading(3)
+    }
+}

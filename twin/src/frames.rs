@@ -1,0 +1,184 @@
+//! The cases: frames and bare LLDPDUs on both sides of every rule, and then random ones.
+//! The case file and the text that is expected for it are made here.
+
+pub(crate) mod blocks;
+mod maker;
+mod random;
+mod rules;
+
+use crate::reader::{
+    name_link, outline_frame, outline_lldpdu, read_frame, read_lldpdu, Address, Naming, Outline,
+    Reading, Refusal,
+};
+use blocks::HEADER;
+use maker::Maker;
+
+#[derive(Clone, Copy, Debug, PartialEq, Eq)]
+pub enum Kind {
+    Frame,
+    Bare,
+}
+
+#[derive(Clone, Debug, PartialEq, Eq)]
+pub struct Case {
+    pub kind: Kind,
+    pub asked: Address,
+    pub octets: Vec<u8>,
+}
+
+/// All cases, always the same ones.
+pub fn cases() -> Vec<Case> {
+    let mut maker = Maker::new();
+    maker.rules();
+    maker.random();
+    maker.cases
+}
+
+/// The case file: kind, address asked for, length with its high octet first, octets.
+pub fn case_file(cases: &[Case]) -> Vec<u8> {
+    let mut file = Vec::new();
+    for case in cases {
+        file.push(match case.kind {
+            Kind::Frame => 0,
+            Kind::Bare => 1,
+        });
+        file.extend(case.asked);
+        let length = u16::try_from(case.octets.len()).expect("a case has at most 2,000 octets");
+        file.extend(length.to_be_bytes());
+        file.extend(&case.octets);
+    }
+    file
+}
+
+/// The expected text: three lines for each case, numbered from 1.
+pub fn expected(cases: &[Case]) -> String {
+    let mut text = String::new();
+    for (case, number) in cases.iter().zip(1..) {
+        let octets = case.octets.as_slice();
+        let (outline, reading, lldpdu) = match case.kind {
+            Kind::Frame => (
+                outline_frame(octets),
+                read_frame(octets),
+                // Naming is asked of what stands behind the header, even if the header is refused.
+                octets.get(HEADER..).unwrap_or_default(),
+            ),
+            Kind::Bare => (outline_lldpdu(octets), read_lldpdu(octets), octets),
+        };
+        let naming = name_link(lldpdu, case.asked);
+        text += &format!("{number} outline {}\n", or_refused(outline, outline_text));
+        text += &format!("{number} reading {}\n", or_refused(reading, reading_text));
+        text += &format!("{number} naming {}\n", or_refused(naming, naming_text));
+    }
+    text
+}
+
+fn or_refused<T>(answer: Result<T, Refusal>, text: fn(&T) -> String) -> String {
+    match answer {
+        Ok(value) => text(&value),
+        Err(number) => format!("refused {number}"),
+    }
+}
+
+fn outline_text(outline: &Outline) -> String {
+    format!("valid {} {}", outline.length, identity_text(outline))
+}
+
+fn identity_text(outline: &Outline) -> String {
+    format!(
+        "{} {} {} {}",
+        hex(&outline.chassis),
+        outline.port_subtype,
+        hex(&outline.port),
+        outline.seconds
+    )
+}
+
+fn reading_text(reading: &Reading) -> String {
+    let link = match &reading.link {
+        Some(link) => format!(
+            "{}/{}/{}",
+            hex(&link.interface),
+            hex(&link.number),
+            hex(&link.addresses.concat())
+        ),
+        None => "absent".to_string(),
+    };
+    let list = match &reading.list {
+        Some(addresses) => hex(&addresses.concat()),
+        None => "absent".to_string(),
+    };
+    format!(
+        "valid {} {} {} {} {} {} {} {} {link} {list}",
+        reading.outline.length,
+        if reading.htip { "yes" } else { "no" },
+        identity_text(&reading.outline),
+        hex(&reading.description),
+        hex(&reading.category),
+        hex(&reading.manufacturer),
+        hex(&reading.model_name),
+        hex(&reading.model_number),
+    )
+}
+
+fn naming_text(naming: &Option<Naming>) -> String {
+    match naming {
+        Some(Naming { interface, number }) => {
+            format!("{} {} {} {}", interface.count, interface.value, number.count, number.value)
+        }
+        None => "none".to_string(),
+    }
+}
+
+/// Two capital hex digits for each octet; a single dot for no octets, so that no field is empty.
+fn hex(octets: &[u8]) -> String {
+    if octets.is_empty() {
+        return ".".to_string();
+    }
+    octets.iter().map(|octet| format!("{octet:02X}")).collect()
+}
+
+#[cfg(test)]
+mod tests {
+    use super::*;
+
+    #[test]
+    fn the_cases_are_the_same_each_time() {
+        assert!(cases() == cases());
+    }
+
+    #[test]
+    fn the_files_have_the_promised_sizes() {
+        let cases = cases();
+        let frames = cases.iter().filter(|case| case.kind == Kind::Frame).count();
+        let bare = cases.len() - frames;
+        println!("{} cases, {frames} frames, {bare} bare", cases.len());
+        assert!((2400..=2800).contains(&cases.len()));
+        assert!(frames >= 2100);
+        assert!(bare >= 200);
+        assert!(case_file(&cases).len() <= 600_000);
+        assert!(expected(&cases).len() <= 1_300_000);
+    }
+
+    /// A rule that hardly ever decides would hardly be compared.
+    #[test]
+    fn no_answer_is_rare() {
+        let text = expected(&cases());
+        let lines = |wanted: &dyn Fn(&[&str]) -> bool| {
+            text.lines().filter(|line| wanted(&line.split(' ').skip(1).collect::<Vec<_>>())).count()
+        };
+        let mut counts = vec![
+            ("htip yes", lines(&|w| w[0] == "reading" && w.get(3) == Some(&"yes"))),
+            ("htip no", lines(&|w| w[0] == "reading" && w.get(3) == Some(&"no"))),
+            ("naming hit", lines(&|w| w[0] == "naming" && w.len() == 5)),
+            ("naming none", lines(&|w| w == ["naming", "none"])),
+        ];
+        for number in ["3", "4", "5", "6"] {
+            counts.push((number, lines(&|w| w == ["reading", "refused", number])));
+        }
+        for number in ["4", "5", "6"] {
+            counts.push((number, lines(&|w| w == ["naming", "refused", number])));
+        }
+        println!("{counts:?}");
+        assert!(counts.iter().all(|&(_, count)| count >= 20));
+    }
+}

@@ -1,0 +1,85 @@
+//! The maker gathers cases and lends its generator to those who make them.
+//! Its calls put TLVs into an LLDPDU, and an LLDPDU into a frame.
+
+use super::blocks::*;
+use super::{Case, Kind};
+use crate::reader::Address;
+use crate::rng::Rng;
+
+/// The seed is fixed, so that the files never change by themselves.
+const SEED: u64 = 0x4C4C_4450_4854_4950;
+
+pub struct Maker {
+    pub rng: Rng,
+    pub cases: Vec<Case>,
+}
+
+impl Maker {
+    pub fn new() -> Self {
+        Maker { rng: Rng::new(SEED), cases: Vec::new() }
+    }
+
+    pub fn add(&mut self, kind: Kind, octets: Vec<u8>, asked: Address) {
+        assert!(octets.len() <= 2000);
+        self.cases.push(Case { kind, asked, octets });
+    }
+
+    /// A frame as it stands, header and all.
+    pub fn raw(&mut self, frame: Vec<u8>) {
+        self.add(Kind::Frame, frame, SOUGHT);
+    }
+
+    /// A frame with a right header around the LLDPDU.
+    pub fn frame(&mut self, lldpdu: Vec<u8>) {
+        self.frame_asking(lldpdu, SOUGHT);
+    }
+
+    pub fn frame_asking(&mut self, lldpdu: Vec<u8>, asked: Address) {
+        let frame = [self.header(), lldpdu].concat();
+        self.add(Kind::Frame, frame, asked);
+    }
+
+    pub fn bare(&mut self, lldpdu: Vec<u8>) {
+        self.add(Kind::Bare, lldpdu, SOUGHT);
+    }
+
+    /// The LLDPDU in a frame and by itself.
+    pub fn both(&mut self, lldpdu: Vec<u8>) {
+        self.frame(lldpdu.clone());
+        self.bare(lldpdu);
+    }
+
+    pub fn header(&mut self) -> Vec<u8> {
+        let destination = self.rng.pick(&[EVERYONE, GROUP]);
+        let source = [0; 6].map(|_: u8| self.rng.octet());
+        headed(destination, source, LLDP, &[])
+    }
+
+    /// A frame that is HTIP but for the given TLVs.
+    pub fn with(&mut self, tlvs: &[Tlv]) {
+        let inside = self.beside(tlvs);
+        self.frame(inside);
+    }
+
+    /// As `with`, but category or model number is left out where it would repeat the ID.
+    pub fn with_id(&mut self, id: u8, tlvs: &[Tlv]) {
+        let inside = self.among(&others_than(id), tlvs);
+        self.frame(inside);
+    }
+
+    /// An LLDPDU that is HTIP but for the given TLVs.
+    pub fn beside(&mut self, tlvs: &[Tlv]) -> Vec<u8> {
+        self.among(&[category(), model_number()], tlvs)
+    }
+
+    /// The TLVs stand together, and not always in the same place: what lies behind them differs.
+    fn among(&mut self, others: &[Tlv], tlvs: &[Tlv]) -> Vec<u8> {
+        let (before, behind) = others.split_at(self.rng.below(others.len() + 1));
+        lldpdu(&leading(), &[before, tlvs, behind].concat())
+    }
+
+    /// Characters that a port description may have (T10).
+    pub fn text(&mut self, length: usize) -> Vec<u8> {
+        (0..length).map(|_| self.rng.pick(CHARACTERS)).collect()
+    }
+}

@@ -1,0 +1,146 @@
+//! Random cases: whole LLDPDUs put together at random, HTIP or not, and damaged ones.
+//! They look for what nobody thought of; the rules themselves have cases of their own.
+
+use super::blocks::*;
+use super::maker::Maker;
+use super::Kind;
+use crate::reader::Address;
+
+impl Maker {
+    /// Random composition: HTIP, not HTIP, and damaged.
+    pub fn random(&mut self) {
+        for round in 0..160 {
+            let (lldpdu, asked) = self.random_lldpdu(round % 2 == 1);
+            match round % 10 {
+                0 | 1 => self.add(Kind::Bare, lldpdu, asked),
+                _ => self.frame_asking(lldpdu, asked),
+            }
+        }
+        for round in 0..140 {
+            let (lldpdu, asked) = self.random_lldpdu(round % 4 == 3);
+            let kind = if round % 5 == 0 { Kind::Bare } else { Kind::Frame };
+            // One time in eight the header may be damaged too, else only what stands behind it.
+            let (kept, mut octets) = match kind {
+                Kind::Bare => (vec![], lldpdu),
+                Kind::Frame if round % 8 == 1 => (vec![], [self.header(), lldpdu].concat()),
+                Kind::Frame => (self.header(), lldpdu),
+            };
+            for _ in 0..self.rng.between(1, 3) {
+                self.damage(&mut octets);
+            }
+            self.add(kind, [kept, octets].concat(), asked);
+        }
+    }
+
+    /// Flips a bit, changes, inserts or deletes an octet, or cuts the rest off.
+    fn damage(&mut self, octets: &mut Vec<u8>) {
+        if octets.is_empty() {
+            return;
+        }
+        let place = self.rng.below(octets.len());
+        match self.rng.below(9) {
+            0..=2 => octets[place] ^= 1 << self.rng.below(8),
+            3 => octets[place] = self.rng.octet(),
+            4 => octets[place] = octets[place].wrapping_add(self.rng.pick(&[1, 0xFF])),
+            5 => octets.insert(place, self.rng.pick(&[0x00, 0x01, 0xFF])),
+            6 | 7 => {
+                octets.remove(place);
+            }
+            _ => octets.truncate(place),
+        }
+    }
+
+    /// A valid LLDPDU with padding, and an address to ask for. It is HTIP exactly if not spoilt.
+    fn random_lldpdu(&mut self, spoilt: bool) -> (Vec<u8>, Address) {
+        let pool: Vec<Address> = (1..=6).map(neighbour).collect();
+        let chassis = tlv(1, &[&[4], self.rng.octets(6).as_slice()].concat());
+        let subtype = self.rng.between(1, 7) as u8;
+        let length = self.rng.between(1, 12);
+        let port = tlv(2, &[&[subtype], self.rng.octets(length).as_slice()].concat());
+        let seconds = tlv(3, &self.rng.octets(2));
+
+        let mut later = vec![self.random_device(1, 255), self.random_device(4, 31)];
+        if self.rng.once_in(2) {
+            later.push(self.random_device(2, 6));
+        }
+        if self.rng.once_in(2) {
+            later.push(self.random_device(3, 31));
+        }
+        if self.rng.once_in(2) {
+            let length = if self.rng.once_in(8) { 255 } else { self.rng.between(0, 20) };
+            let text = self.text(length);
+            later.push(description(&text));
+        }
+        if self.rng.once_in(3) {
+            let id = self.rng.pick(&[0, 5, 20, 23, 27, 50, 54, 80, 128, 254, 255]);
+            later.push(self.random_device(id, 255));
+        }
+        if self.rng.once_in(3) {
+            let kind = self.rng.between(5, 126) as u8;
+            let length = self.rng.between(0, 9);
+            let value = self.rng.octets(length);
+            later.push(tlv(kind, &value));
+        }
+        for _ in 0..self.rng.between(0, 3) {
+            later.push(self.random_link(&pool));
+        }
+        for _ in 0..self.rng.between(0, 2) {
+            let members = self.random_members(&pool);
+            later.push(list(&members));
+        }
+        if spoilt {
+            self.spoil(&mut later, &pool);
+        }
+        self.rng.shuffle(&mut later);
+
+        let inside = lldpdu(&[chassis, port, seconds], &later);
+        let padded = self.rng.pick(&[0, 0, 1, 5, 30]);
+        let padding = if self.rng.once_in(2) { vec![0; padded] } else { self.rng.octets(padded) };
+        ([inside, padding].concat(), self.rng.pick(&pool))
+    }
+
+    /// The shortest and the longest strings come often.
+    fn random_device(&mut self, id: u8, longest: usize) -> Tlv {
+        let length = match self.rng.below(8) {
+            0 => 1,
+            1 => longest,
+            _ => self.rng.between(1, longest.min(12)),
+        };
+        let string = self.rng.octets(length);
+        device(id, &string)
+    }
+
+    fn random_members(&mut self, pool: &[Address]) -> Vec<Address> {
+        let count = self.rng.between(0, 4);
+        (0..count).map(|_| self.rng.pick(pool)).collect()
+    }
+
+    fn random_link(&mut self, pool: &[Address]) -> Tlv {
+        let n = self.rng.between(1, 4);
+        let m = self.rng.between(1, 4);
+        let interface = self.rng.octets(n);
+        let number = self.rng.octets(m);
+        let members = self.random_members(pool);
+        link(&interface, &number, &members)
+    }
+
+    /// Breaks one condition of the verdict (H1); the LLDPDU stays valid. The category stands first,
+    /// the model number second.
+    fn spoil(&mut self, later: &mut Vec<Tlv>, pool: &[Address]) {
+        match self.rng.below(13) {
+            0 => drop(later.remove(0)),
+            1 => drop(later.remove(1)),
+            2 => later.push(self.random_device(1, 5)),
+            3 => later.push(self.random_device(4, 5)),
+            4 => later.extend([device(2, b"A1"), device(2, b"B2")]),
+            5 => later[0] = device(1, &[]),
+            6 => later[1] = device(4, &[]),
+            7 => later[1] = device(4, &[0; 32]),
+            8 => later.push(device_claiming(20, 9, &[1; 8])),
+            9 => later.push(link_claiming(&[6], &[1], 1, &pool.concat())),
+            10 => later.push(list_claiming(6, &[0; 35])),
+            11 => later.push(description(&[b'x'; 256])),
+            _ => later.push(description(b"semi;colon\nline")),
+        }
+    }
+}

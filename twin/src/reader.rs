@@ -1,0 +1,342 @@
+//! The reader: a frame or a bare LLDPDU becomes owned values, or a refusal number.
+//! TLVs are taken off the front one by one, so that refusals come in the order of the octets.
+
+use std::ops::RangeInclusive;
+
+/// A refusal number: 3 to 6 for a frame, 4 to 6 for a bare LLDPDU (A1).
+pub type Refusal = u8;
+
+pub type Address = [u8; 6];
+
+const BAD_HEADER: Refusal = 3;
+const BAD_LEADING_TLV: Refusal = 4;
+const RUNS_OUT: Refusal = 5;
+const BAD_LATER_TLV: Refusal = 6;
+
+const LONGEST_FRAME: usize = 1514;
+const LONGEST_DESCRIPTION: usize = 255;
+const EVERYONE: Address = [0xFF; 6];
+const LLDP_GROUP: Address = [0x01, 0x80, 0xC2, 0x00, 0x00, 0x0E];
+const LLDP_TYPE: [u8; 2] = [0x88, 0xCC];
+
+const END: u8 = 0;
+const CHASSIS: u8 = 1;
+const PORT: u8 = 2;
+const SECONDS: u8 = 3;
+const DESCRIPTION: u8 = 4;
+const ORGANIZATION: u8 = 127;
+
+const TTC: [u8; 3] = [0xE0, 0x27, 0x1A];
+
+const CATEGORY: u8 = 1;
+const MANUFACTURER: u8 = 2;
+const MODEL_NAME: u8 = 3;
+const MODEL_NUMBER: u8 = 4;
+const VENDOR: u8 = 255;
+
+/// What every valid LLDPDU has (A1).
+#[derive(Clone, Debug, PartialEq, Eq)]
+pub struct Outline {
+    /// Octets of the LLDPDU through its End TLV; padding is not counted (L8).
+    pub length: usize,
+    pub chassis: Address,
+    pub port_subtype: u8,
+    pub port: Vec<u8>,
+    pub seconds: u16,
+}
+
+/// All that the reader answers (A1). An absent string is empty (A2); an absent table is not an
+/// empty one (A3).
+#[derive(Clone, Debug, PartialEq, Eq)]
+pub struct Reading {
+    pub outline: Outline,
+    pub htip: bool,
+    pub description: Vec<u8>,
+    pub category: Vec<u8>,
+    pub manufacturer: Vec<u8>,
+    pub model_name: Vec<u8>,
+    pub model_number: Vec<u8>,
+    pub link: Option<Link>,
+    pub list: Option<Vec<Address>>,
+}
+
+/// Link information. Interface type and port number are kept as octets: 00 06 is not 06 (T7).
+#[derive(Clone, Debug, PartialEq, Eq)]
+pub struct Link {
+    pub interface: Vec<u8>,
+    pub number: Vec<u8>,
+    pub addresses: Vec<Address>,
+}
+
+/// A string of one to four octets as a number, together with its count of octets (A4).
+#[derive(Clone, Copy, Debug, PartialEq, Eq)]
+pub struct Counted {
+    pub count: usize,
+    pub value: u32,
+}
+
+/// Where a neighbour has seen an address.
+#[derive(Clone, Copy, Debug, PartialEq, Eq)]
+pub struct Naming {
+    pub interface: Counted,
+    pub number: Counted,
+}
+
+pub fn read_frame(frame: &[u8]) -> Result<Reading, Refusal> {
+    read_lldpdu(payload(frame)?)
+}
+
+pub fn outline_frame(frame: &[u8]) -> Result<Outline, Refusal> {
+    outline_lldpdu(payload(frame)?)
+}
+
+pub fn outline_lldpdu(lldpdu: &[u8]) -> Result<Outline, Refusal> {
+    Ok(Parts::of(lldpdu)?.outline)
+}
+
+pub fn read_lldpdu(lldpdu: &[u8]) -> Result<Reading, Refusal> {
+    let Parts { outline, later } = Parts::of(lldpdu)?;
+    let fields: Vec<Field> = later.iter().map(Field::of).collect();
+    let strings = |id: u8| -> Vec<Vec<u8>> {
+        let of_id = |field: &Field| match field {
+            Field::Device(found, string) if *found == id => Some(string.clone()),
+            _ => None,
+        };
+        fields.iter().filter_map(of_id).collect()
+    };
+    let categories = strings(CATEGORY);
+    let manufacturers = strings(MANUFACTURER);
+    let model_names = strings(MODEL_NAME);
+    let model_numbers = strings(MODEL_NUMBER);
+
+    // A malformed twin of IDs 1 to 4 is not counted here, but being malformed it spoils the verdict
+    // all the same (H1).
+    let htip = !fields.contains(&Field::Malformed)
+        && categories.len() == 1
+        && manufacturers.len() <= 1
+        && model_names.len() <= 1
+        && model_numbers.len() == 1;
+
+    // The values are read even where the frame is not HTIP (H2); the first well-formed one counts
+    // (A2).
+    Ok(Reading {
+        outline,
+        htip,
+        description: fields
+            .iter()
+            .find_map(|field| match field {
+                Field::Description(text) => Some(text.clone()),
+                _ => None,
+            })
+            .unwrap_or_default(),
+        category: first_or_empty(categories),
+        manufacturer: first_or_empty(manufacturers),
+        model_name: first_or_empty(model_names),
+        model_number: first_or_empty(model_numbers),
+        link: fields.iter().find_map(|field| match field {
+            Field::Link(link) => Some(link.clone()),
+            _ => None,
+        }),
+        list: fields.iter().find_map(|field| match field {
+            Field::List(addresses) => Some(addresses.clone()),
+            _ => None,
+        }),
+    })
+}
+
+/// The first well-formed link information that names the address (A4), whether the frame is HTIP or
+/// not.
+pub fn name_link(lldpdu: &[u8], address: Address) -> Result<Option<Naming>, Refusal> {
+    let parts = Parts::of(lldpdu)?;
+    let naming = parts.later.iter().find_map(|tlv| match Field::of(tlv) {
+        Field::Link(link) if link.addresses.contains(&address) => {
+            Some(Naming { interface: counted(&link.interface), number: counted(&link.number) })
+        }
+        _ => None,
+    });
+    Ok(naming)
+}
+
+/// The octets behind a frame's header. Length, destination and type (F1 to F3) are judged before
+/// any TLV.
+fn payload(frame: &[u8]) -> Result<&[u8], Refusal> {
+    let (header, lldpdu) = frame.split_first_chunk::<14>().ok_or(BAD_HEADER)?;
+    let addressed = header.starts_with(&EVERYONE) || header.starts_with(&LLDP_GROUP);
+    if frame.len() <= LONGEST_FRAME && addressed && header.ends_with(&LLDP_TYPE) {
+        Ok(lldpdu)
+    } else {
+        Err(BAD_HEADER)
+    }
+}
+
+/// A TLV with its own copy of its information string (L2): nothing behind it can be read by
+/// mistake.
+struct Tlv {
+    kind: u8,
+    value: Vec<u8>,
+}
+
+/// Takes one TLV off the front. Running out is judged before type and length are (R11).
+fn take_tlv(rest: &mut &[u8]) -> Result<Tlv, Refusal> {
+    let (header, behind) = rest.split_first_chunk::<2>().ok_or(RUNS_OUT)?;
+    let joined = u16::from_be_bytes(*header);
+    let length = usize::from(joined % 512);
+    let (value, behind) = behind.split_at_checked(length).ok_or(RUNS_OUT)?;
+    *rest = behind;
+    Ok(Tlv { kind: (joined / 512) as u8, value: value.to_vec() })
+}
+
+/// A valid LLDPDU: what it must have, and the TLVs between the third and the End.
+struct Parts {
+    outline: Outline,
+    later: Vec<Tlv>,
+}
+
+impl Parts {
+    fn of(lldpdu: &[u8]) -> Result<Parts, Refusal> {
+        let mut rest = lldpdu;
+        let chassis = chassis_of(&take_tlv(&mut rest)?).ok_or(BAD_LEADING_TLV)?;
+        let (port_subtype, port) = port_of(&take_tlv(&mut rest)?).ok_or(BAD_LEADING_TLV)?;
+        let seconds = seconds_of(&take_tlv(&mut rest)?).ok_or(BAD_LEADING_TLV)?;
+        let mut later = Vec::new();
+        loop {
+            let tlv = take_tlv(&mut rest)?;
+            match (tlv.kind, tlv.value.len()) {
+                (END, 0) => break,
+                (END | CHASSIS | PORT | SECONDS, _) => return Err(BAD_LATER_TLV),
+                (ORGANIZATION, 0..=3) => return Err(BAD_LATER_TLV),
+                _ => later.push(tlv),
+            }
+        }
+        // What is left is padding (L8).
+        let length = lldpdu.len() - rest.len();
+        Ok(Parts { outline: Outline { length, chassis, port_subtype, port, seconds }, later })
+    }
+}
+
+/// Subtype 4, then a chassis address of six octets (L3).
+fn chassis_of(tlv: &Tlv) -> Option<Address> {
+    match (tlv.kind, tlv.value.split_first()) {
+        (CHASSIS, Some((4, address))) => address.try_into().ok(),
+        _ => None,
+    }
+}
+
+/// Subtype 1 to 7, then at least one octet; L of 256 leaves room for 255 (L4).
+fn port_of(tlv: &Tlv) -> Option<(u8, Vec<u8>)> {
+    match (tlv.kind, tlv.value.split_first()) {
+        (PORT, Some((&subtype @ 1..=7, octets))) if (1..=255).contains(&octets.len()) => {
+            Some((subtype, octets.to_vec()))
+        }
+        _ => None,
+    }
+}
+
+/// Two octets, high octet first (L5).
+fn seconds_of(tlv: &Tlv) -> Option<u16> {
+    match (tlv.kind, tlv.value.as_slice()) {
+        (SECONDS, &[high, low]) => Some(u16::from_be_bytes([high, low])),
+        _ => None,
+    }
+}
+
+/// What one later TLV means to the reading.
+#[derive(PartialEq)]
+enum Field {
+    Description(Vec<u8>),
+    /// One of IDs 1 to 4 with its string.
+    Device(u8, Vec<u8>),
+    Link(Link),
+    List(Vec<Address>),
+    /// A port description or a TTC field of subtype 1 to 3 that is not well formed (H1).
+    Malformed,
+    /// Anything that neither has a value nor spoils the verdict.
+    Skipped,
+}
+
+impl Field {
+    fn of(tlv: &Tlv) -> Field {
+        let well_formed = match (tlv.kind, tlv.value.as_slice()) {
+            (DESCRIPTION, text) => description_of(text),
+            (ORGANIZATION, [a, b, c, subtype, body @ ..]) if [*a, *b, *c] == TTC => match subtype {
+                1 => device_of(body),
+                2 => link_of(body).map(Field::Link),
+                3 => addresses_of(body).map(Field::List),
+                _ => Some(Field::Skipped),
+            },
+            _ => Some(Field::Skipped),
+        };
+        well_formed.unwrap_or(Field::Malformed)
+    }
+}
+
+/// An empty description is well formed, since the rule only says "at most" (T10).
+fn description_of(text: &[u8]) -> Option<Field> {
+    let allowed =
+        |octet: &u8| octet.is_ascii_alphanumeric() || b" -'()+,./:=?;!*#@$_%".contains(octet);
+    (text.len() <= LONGEST_DESCRIPTION && text.iter().all(allowed))
+        .then(|| Field::Description(text.to_vec()))
+}
+
+/// ID, string length s, string (T2). What lies behind a vendor's ID is the vendor's: s is not
+/// looked at (T6).
+fn device_of(body: &[u8]) -> Option<Field> {
+    let (&id, behind) = body.split_first()?;
+    if id == VENDOR {
+        return Some(Field::Skipped);
+    }
+    let (&s, string) = behind.split_first()?;
+    if string.len() != usize::from(s) || !lengths_of(id).contains(&s) {
+        return None;
+    }
+    Some(match id {
+        CATEGORY..=MODEL_NUMBER => Field::Device(id, string.to_vec()),
+        _ => Field::Skipped,
+    })
+}
+
+/// The string lengths that an ID allows (T3, T4). Reserved IDs are skipped whatever their length is
+/// (T5).
+fn lengths_of(id: u8) -> RangeInclusive<u8> {
+    match id {
+        CATEGORY => 1..=255,
+        MANUFACTURER => 1..=6,
+        MODEL_NAME | MODEL_NUMBER => 1..=31,
+        _ => 0..=255,
+    }
+}
+
+fn link_of(body: &[u8]) -> Option<Link> {
+    let (interface, behind) = short_string(body)?;
+    let (number, behind) = short_string(behind)?;
+    Some(Link {
+        interface: interface.to_vec(),
+        number: number.to_vec(),
+        addresses: addresses_of(behind)?,
+    })
+}
+
+/// A count from 1 to 4 and that many octets, parted from what follows (T7).
+fn short_string(octets: &[u8]) -> Option<(&[u8], &[u8])> {
+    match octets.split_first()? {
+        (&count @ 1..=4, behind) => behind.split_at_checked(usize::from(count)),
+        _ => None,
+    }
+}
+
+/// A count k and then k addresses, ending exactly there (T7, T8).
+fn addresses_of(octets: &[u8]) -> Option<Vec<Address>> {
+    let (&k, behind) = octets.split_first()?;
+    let (addresses, left_over) = behind.as_chunks::<6>();
+    (left_over.is_empty() && addresses.len() == usize::from(k)).then(|| addresses.to_vec())
+}
+
+fn first_or_empty(strings: Vec<Vec<u8>>) -> Vec<u8> {
+    strings.into_iter().next().unwrap_or_default()
+}
+
+/// High octet first (A4).
+fn counted(octets: &[u8]) -> Counted {
+    let value = octets.iter().fold(0, |value, &octet| (value << 8) | u32::from(octet));
+    Counted { count: octets.len(), value }
+}

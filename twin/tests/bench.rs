@@ -1,0 +1,259 @@
+//! The bench frames P1 to P12 (B1 to B12) and the readings of open points, as ordinary tests.
+//! Octets and expected values are typed from the rules page by hand, never taken from the program.
+
+use twin::reader::*;
+
+/// Frame A of the rules page, 51 octets.
+const A: [u8; 51] = [
+    0xFF, 0xFF, 0xFF, 0xFF, 0xFF, 0xFF, 0x02, 0x00, 0x00, 0x00, 0x00, 0x01, 0x88,
+    0xCC, // header
+    0x02, 0x07, 0x04, 0x02, 0x00, 0x00, 0x00, 0x00, 0x01, // chassis
+    0x04, 0x02, 0x07, 0x31, // port ID
+    0x06, 0x02, 0x00, 0x78, // seconds
+    0xFE, 0x07, 0xE0, 0x27, 0x1A, 0x01, 0x01, 0x01, 0x41, // category
+    0xFE, 0x07, 0xE0, 0x27, 0x1A, 0x01, 0x04, 0x01, 0x37, // model number
+    0x00, 0x00, // End
+];
+
+const FIRST: usize = 14;
+const SECOND: usize = 23;
+const THIRD: usize = 27;
+const CATEGORY: usize = 31;
+const MODEL_NUMBER: usize = 40;
+const END: usize = 49;
+
+/// Frame A with the octets from one place to another replaced.
+fn replaced(from: usize, to: usize, by: &[u8]) -> Vec<u8> {
+    [&A[..from], by, &A[to..]].concat()
+}
+
+/// Frame A with octets put before its End.
+fn before_end(octets: &[u8]) -> Vec<u8> {
+    replaced(END, END, octets)
+}
+
+/// What the page says of frame A (B1).
+fn reading_of_a() -> Reading {
+    Reading {
+        outline: Outline {
+            length: 37,
+            chassis: [0x02, 0x00, 0x00, 0x00, 0x00, 0x01],
+            port_subtype: 7,
+            port: vec![0x31],
+            seconds: 120,
+        },
+        htip: true,
+        description: vec![],
+        category: vec![0x41],
+        manufacturer: vec![],
+        model_name: vec![],
+        model_number: vec![0x37],
+        link: None,
+        list: None,
+    }
+}
+
+fn reading(frame: &[u8]) -> Reading {
+    read_frame(frame).expect("the frame is valid")
+}
+
+#[test]
+fn p1_a_is_valid_and_htip() {
+    assert_eq!(read_frame(&A), Ok(reading_of_a()));
+    assert_eq!(outline_frame(&A), Ok(reading_of_a().outline));
+    assert_eq!(read_lldpdu(&A[14..]), Ok(reading_of_a()));
+    assert_eq!(outline_lldpdu(&A[14..]), Ok(reading_of_a().outline));
+}
+
+#[test]
+fn p2_padding_changes_nothing() {
+    assert_eq!(read_frame(&[&A[..], &[0; 9]].concat()), Ok(reading_of_a()));
+}
+
+#[test]
+fn p3_without_the_last_octet() {
+    assert_eq!(read_frame(&A[..50]), Err(5));
+    assert_eq!(outline_frame(&A[..50]), Err(5));
+}
+
+#[test]
+fn p4_the_first_14_octets() {
+    assert_eq!(read_frame(&A[..14]), Err(5));
+}
+
+#[test]
+fn p5_the_first_13_octets() {
+    assert_eq!(read_frame(&A[..13]), Err(3));
+}
+
+#[test]
+fn p6_another_type() {
+    assert_eq!(read_frame(&replaced(12, 14, &[0x08, 0x00])), Err(3));
+}
+
+#[test]
+fn p7_short_first_tlv() {
+    let first = [0x02, 0x06, 0x04, 0x02, 0x00, 0x00, 0x00, 0x00];
+    assert_eq!(read_frame(&replaced(FIRST, SECOND, &first)), Err(4));
+}
+
+#[test]
+fn p8_long_third_tlv() {
+    let third = [0x06, 0x03, 0x00, 0x78, 0x00];
+    assert_eq!(read_frame(&replaced(THIRD, CATEGORY, &third)), Err(4));
+}
+
+#[test]
+fn p9_seconds_again() {
+    assert_eq!(read_frame(&before_end(&[0x06, 0x02, 0x00, 0x78])), Err(6));
+}
+
+#[test]
+fn p10_organization_without_subtype() {
+    assert_eq!(read_frame(&before_end(&[0xFE, 0x03, 0xE0, 0x27, 0x1A])), Err(6));
+}
+
+#[test]
+fn p11_category_without_string_length() {
+    let category = [0xFE, 0x05, 0xE0, 0x27, 0x1A, 0x01, 0x01];
+    let mut expected = reading_of_a();
+    expected.outline.length = 35;
+    expected.htip = false;
+    expected.category = vec![];
+    assert_eq!(read_frame(&replaced(CATEGORY, MODEL_NUMBER, &category)), Ok(expected));
+}
+
+#[test]
+fn p12_string_length_beyond_the_tlv() {
+    let category = [0xFE, 0x07, 0xE0, 0x27, 0x1A, 0x01, 0x01, 0x02, 0x41];
+    let mut expected = reading_of_a();
+    expected.htip = false;
+    expected.category = vec![];
+    assert_eq!(read_frame(&replaced(CATEGORY, MODEL_NUMBER, &category)), Ok(expected));
+}
+
+#[test]
+fn both_destinations_and_no_other() {
+    let group = [0x01, 0x80, 0xC2, 0x00, 0x00, 0x0E];
+    assert_eq!(read_frame(&replaced(0, 6, &group)), Ok(reading_of_a()));
+    let near = [0x01, 0x80, 0xC2, 0x00, 0x00, 0x00];
+    assert_eq!(read_frame(&replaced(0, 6, &near)), Err(3));
+}
+
+#[test]
+fn the_longest_frame() {
+    let longest = [&A[..], &[0; 1514 - 51]].concat();
+    assert_eq!(read_frame(&longest), Ok(reading_of_a()));
+    let too_long = [&A[..], &[0; 1515 - 51]].concat();
+    assert_eq!(read_frame(&too_long), Err(3));
+    assert_eq!(read_lldpdu(&too_long[14..]), Ok(reading_of_a()));
+}
+
+#[test]
+fn end_in_place_of_a_leading_tlv() {
+    for place in [FIRST, SECOND, THIRD] {
+        assert_eq!(read_frame(&[&A[..place], &[0x00, 0x00]].concat()), Err(4));
+        assert_eq!(read_frame(&A[..place]), Err(5));
+    }
+}
+
+#[test]
+fn running_out_goes_before_wrong_at_one_tlv() {
+    // Type 5 in the first place, and its body is not all there (R11).
+    assert_eq!(read_frame(&[&A[..14], &[0x0A, 0x07, 0x04]].concat()), Err(5));
+    // Type 127 with L = 3 as the last thing, with two octets of body.
+    assert_eq!(read_frame(&[&A[..END], &[0xFE, 0x03, 0xE0, 0x27]].concat()), Err(5));
+}
+
+#[test]
+fn the_earlier_tlv_decides() {
+    let wrong_third = [0x06, 0x01, 0x78];
+    assert_eq!(read_frame(&[&A[..THIRD], &wrong_third, &[0xFE]].concat()), Err(4));
+    let again = [0x06, 0x02, 0x00, 0x78];
+    assert_eq!(read_frame(&[&A[..END], &again, &[0xFE]].concat()), Err(6));
+}
+
+#[test]
+fn the_first_description_counts_even_if_empty() {
+    let read = reading(&before_end(&[0x08, 0x00, 0x08, 0x01, 0x61]));
+    assert!(read.htip);
+    assert_eq!(read.description, b"");
+    let read = reading(&before_end(&[0x08, 0x01, 0x62, 0x08, 0x01, 0x61]));
+    assert!(read.htip);
+    assert_eq!(read.description, b"b");
+}
+
+#[test]
+fn a_foreign_character_or_256_octets_spoil_the_verdict_only() {
+    let read = reading(&before_end(&[0x08, 0x01, 0x26, 0x08, 0x01, 0x61]));
+    assert!(!read.htip);
+    assert_eq!(read.description, b"a");
+    let longest = [&[0x08, 0xFF][..], &[0x61; 255]].concat();
+    assert!(reading(&before_end(&longest)).htip);
+    let too_long = [&[0x09, 0x00][..], &[0x61; 256]].concat();
+    let read = reading(&before_end(&too_long));
+    assert!(!read.htip);
+    assert_eq!(read.description, b"");
+}
+
+#[test]
+fn ttc_fields_with_nothing_behind_the_subtype() {
+    for subtype in [1, 2, 3] {
+        assert!(!reading(&before_end(&[0xFE, 0x04, 0xE0, 0x27, 0x1A, subtype])).htip);
+    }
+    for subtype in [0, 4, 255] {
+        assert!(reading(&before_end(&[0xFE, 0x04, 0xE0, 0x27, 0x1A, subtype])).htip);
+    }
+}
+
+#[test]
+fn only_the_vendors_id_needs_no_string_length() {
+    for id in [0, 2, 5, 20, 80, 254] {
+        assert!(!reading(&before_end(&[0xFE, 0x05, 0xE0, 0x27, 0x1A, 0x01, id])).htip);
+    }
+    assert!(reading(&before_end(&[0xFE, 0x05, 0xE0, 0x27, 0x1A, 0x01, 255])).htip);
+    assert!(reading(&before_end(&[0xFE, 0x06, 0xE0, 0x27, 0x1A, 0x01, 255, 9])).htip);
+}
+
+#[test]
+fn any_string_length_includes_none() {
+    for id in [0, 5, 20, 27, 50, 54, 80, 254] {
+        assert!(reading(&before_end(&[0xFE, 0x06, 0xE0, 0x27, 0x1A, 0x01, id, 0])).htip);
+    }
+    for id in [2, 3] {
+        assert!(!reading(&before_end(&[0xFE, 0x06, 0xE0, 0x27, 0x1A, 0x01, id, 0])).htip);
+    }
+}
+
+#[test]
+fn a_malformed_twin_leaves_the_well_formed_value() {
+    let twin = [0xFE, 0x06, 0xE0, 0x27, 0x1A, 0x01, 0x01, 0x00];
+    let read = reading(&replaced(CATEGORY, CATEGORY, &twin));
+    assert!(!read.htip);
+    assert_eq!(read.category, b"A");
+}
+
+#[test]
+fn an_empty_table_is_not_an_absent_one() {
+    let link = [0xFE, 0x09, 0xE0, 0x27, 0x1A, 0x02, 0x01, 0x06, 0x01, 0x03, 0x00];
+    let list = [0xFE, 0x05, 0xE0, 0x27, 0x1A, 0x03, 0x00];
+    let read = reading(&before_end(&[&link[..], &list].concat()));
+    assert!(read.htip);
+    assert_eq!(read.link, Some(Link { interface: vec![6], number: vec![3], addresses: vec![] }));
+    assert_eq!(read.list, Some(vec![]));
+}
+
+#[test]
+fn naming_passes_over_malformed_tables_and_keeps_leading_zeros() {
+    let address = [0x02, 0x00, 0x00, 0x00, 0x00, 0x09];
+    // n = 0 is not allowed (T7); the second table has interface type 00 06 and port number 01 00.
+    let malformed = [0xFE, 0x0E, 0xE0, 0x27, 0x1A, 0x02, 0x00, 0x01, 0x07, 0x01];
+    let table = [0xFE, 0x11, 0xE0, 0x27, 0x1A, 0x02, 0x02, 0x00, 0x06, 0x02, 0x01, 0x00, 0x01];
+    let frame = before_end(&[&malformed[..], &address, &table, &address].concat());
+    let interface = Counted { count: 2, value: 6 };
+    let number = Counted { count: 2, value: 256 };
+    assert_eq!(name_link(&frame[14..], address), Ok(Some(Naming { interface, number })));
+    assert_eq!(name_link(&frame[14..], [0x02, 0x00, 0x00, 0x00, 0x00, 0x01]), Ok(None));
+    assert_eq!(name_link(&frame[14..frame.len() - 1], address), Err(5));
+    assert!(!reading(&frame).htip);
+}
