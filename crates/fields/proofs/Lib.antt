@@ -3,3 +3,4 @@ pub mod TextLaws
 pub mod DeviceLaws
 pub mod LinkLaws
 pub mod FieldLaws
+pub mod Sole

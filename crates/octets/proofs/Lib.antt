@@ -3,3 +3,4 @@ pub mod HeaderLaws
 pub mod NumbersLaws
 pub mod AddressLaws
 pub mod PartLaws
+pub mod Sole

@@ -4,5 +4,9 @@ pub mod ExtentLaws
 pub mod FoundLaws
 pub mod MarkLaws
 pub mod MeaningLaws
+pub mod Stable
 pub mod FrameLaws
 pub mod NamingLaws
+pub mod Agree
+pub mod Bench
+pub mod Sole

@@ -21,7 +21,7 @@ use Rattle.fields.proofs.FieldLaws.{Fits, field-fits}
 use Rattle.reader.specs.Walk.{Tlv, Placed, walk}
 use Rattle.reader.specs.Extent.{portLength, restOf, extentOf}
 use Rattle.reader.specs.Found.{nothing, markOf, gather, htipIn}
-use Rattle.reader.specs.Reading.{Ready, linkAt, listAt, foundIn, descriptionAt, readingAt, readingOf}
+use Rattle.reader.specs.Reading.{Ready, tableAt, linkAt, listAt, foundIn, descriptionAt, readingAt, readingOf}
 use Rattle.reader.specs.Meaning.{onField, contents, wellFormed, htipOf, linkIn, firstLink, firstList, tlvsIn, saidIn, answerAt, answerOf, linkMeant, listMeant, saidBy, meant, Reads}
 use Rattle.reader.proofs.ExtentLaws.{good, good-port}
 use Rattle.reader.proofs.MarkLaws.{AllIn, walk-in, textAt, upTo2, Means, topic-means, gather-formed}
@@ -111,7 +111,7 @@ field-linked b (Says topic skip) more h i = go (eqb link topic) refl
         ((typeCount b, (numberCount b, (addressCount b, c))), i)
     go false e = i
 
-contents-linked : (ts : List Tlv) → AllLinked (contents link ts)
+pub contents-linked : (ts : List Tlv) → AllLinked (contents link ts)
 unfolding contents
 contents-linked [] = tt
 contents-linked (t ∷ ts) =
@@ -125,27 +125,33 @@ met {m = m} {cs = cs} i = go (length cs) (i .count)
     go zero q = rw q
     go (suc n) q = rw q
 
-table-means : (s : List ℕ) (m : Mark) (n k j : ℕ) → eqb (m .times) 0 ≡ false → m .start + m .len ≤ length s → LinkContent (textAt s m) n k j
-    → linkMeant s (linkAt s m) ≡ some (linkIn (textAt s m) (getD (textAt s m) 0 0) (getD (textAt s m) (1 + getD (textAt s m) 0 0) 0))
-unfolding linkAt
-table-means s m n k j t h c =
-    let a = m .start in
-    let l = m .len in
-    let size : l ≡ 3 + n + k + 6 * j = sym (length-take-le l (drop a s) (omega (arith, length-drop a s))) ∙ c .ends in
-    let e0 : getD s a 0 ≡ n = sym (part-at s a l 0 (omega arith) (omega arith)) ∙ c .typed in
-    let e1 : getD s (a + 1 + n) 0 ≡ k = sym (part-at s a l (1 + n) (omega arith) (omega arith)) ∙ c .numbered in
-    let e2 : getD s (a + 2 + n + k) 0 ≡ j = sym (part-at s a l (2 + n + k) (omega arith) (omega arith)) ∙ c .counted in
-    rw (
-      t,
-      e0,
-      e1,
-      e2,
-      c .typed,
-      c .numbered,
-      part-of-part s a l 1 n {j = a + 1} (omega arith) refl,
-      part-of-part s a l (2 + n) k {j = a + 2 + n} (omega arith) (omega arith),
-      rest-of-part s a l (3 + n + k) (6 * j) {j = a + 3 + n + k} size (omega arith),
-    )
+-- the link information at a mark, by the counts in its content
+module _ (s : List ℕ) (m : Mark) (n k j : ℕ) (t : eqb (m .times) 0 ≡ false) (h : m .start + m .len ≤ length s) (c : LinkContent (textAt s m) n k j) where
+  link-size : m .len ≡ 3 + n + k + 6 * j
+  link-size = sym (length-take-le (m .len) (drop (m .start) s) (omega (arith, length-drop (m .start) s))) ∙ c .ends
+
+  pub link-table : linkAt s m ≡ tableAt (m .start) n k j
+  unfolding linkAt
+  link-table =
+      let a = m .start in
+      let size = link-size in
+      let e0 : getD s a 0 ≡ n = sym (part-at s a (m .len) 0 (omega arith) (omega arith)) ∙ c .typed in
+      let e1 : getD s (a + 1 + n) 0 ≡ k = sym (part-at s a (m .len) (1 + n) (omega arith) (omega arith)) ∙ c .numbered in
+      let e2 : getD s (a + 2 + n + k) 0 ≡ j = sym (part-at s a (m .len) (2 + n + k) (omega arith) (omega arith)) ∙ c .counted in
+      rw (t, e0, e1, e2)
+
+  table-means : linkMeant s (linkAt s m) ≡ some (linkIn (textAt s m) (getD (textAt s m) 0 0) (getD (textAt s m) (1 + getD (textAt s m) 0 0) 0))
+  table-means =
+      let a = m .start in
+      let size = link-size in
+      rw (
+        link-table,
+        c .typed,
+        c .numbered,
+        part-of-part s a (m .len) 1 n {j = a + 1} (omega arith) refl,
+        part-of-part s a (m .len) (2 + n) k {j = a + 2 + n} (omega arith) (omega arith),
+        rest-of-part s a (m .len) (3 + n + k) (6 * j) {j = a + 3 + n + k} size (omega arith),
+      )
 
 link-means : (s : List ℕ) (m : Mark) (cs : List (List ℕ)) → AllLinked cs → Means s m cs → linkMeant s (linkAt s m) ≡ firstLink cs
 unfolding linkAt
@@ -156,6 +162,16 @@ link-means s m (c ∷ cs) l i =
     table-means s m (w .0) (w .1 .0) (w .1 .1 .0) (met i) (i .inside) here
     ∙ ap (λ (x : List ℕ). some (linkIn x (getD x 0 0) (getD x (1 + getD x 0 0) 0))) (i .text)
 
+-- two texts with the same contents have the same link information
+pub link-same : (s u : List ℕ) (m : Mark) (cs : List (List ℕ)) → AllLinked cs → Means s m cs → Means u m cs → linkAt u m ≡ linkAt s m
+unfolding linkAt
+link-same s u m [] l i k = rw (eq-eqb (m .times) 0 (i .count))
+link-same s u m (c ∷ cs) l i k =
+    let w = l .0 in
+    let table : (v : List ℕ) → Means v m (c ∷ cs) → linkAt v m ≡ tableAt (m .start) (w .0) (w .1 .0) (w .1 .1 .0) =
+    λ v x. link-table v m (w .0) (w .1 .0) (w .1 .1 .0) (met x) (x .inside) (rw (x .text) (w .1 .1 .1)) in
+    table u k ∙ sym (table s i)
+
 list-means : (s : List ℕ) (m : Mark) (cs : List (List ℕ)) → Means s m cs → listMeant s (listAt m) ≡ firstList cs
 unfolding listAt
 list-means s m [] i = rw (eq-eqb (m .times) 0 (i .count))
@@ -163,7 +179,7 @@ list-means s m (c ∷ cs) i = rw (met i) (ap some (i .text))
 
 -- The whole answer
 
-rest-in : (s : List ℕ) → AllIn s (restOf s .tlvs)
+pub rest-in : (s : List ℕ) → AllIn s (restOf s .tlvs)
 rest-in s = walk-in s (drop (15 + portLength s) s) 0 (15 + portLength s) refl
 
 pub marks-inside : (s : List ℕ) (topic : ℕ) → topic < topics → markOf topic (foundIn s) .start + markOf topic (foundIn s) .len ≤ length s
