@@ -1,24 +1,24 @@
 // frames: runs the cases of the file `frames` and prints every field of every answer, three lines a case.
 // A case is a kind (0 a frame, 1 a bare LLDPDU), the address that is asked for, a length of two octets, and the octets.
 use libc::STDOUT_FILENO;
+use lldpdu::Extent;
+use lldpdu::Outline;
+use lldpdu::Part;
+use lldpdu::outline_lldpdu;
+use lldpdu::text_of;
 use octets::hex_of;
 use octets::octet;
 use octets::pair;
 use octets::six;
 use reader::AddressList;
-use reader::Extent;
 use reader::Link;
 use reader::Naming;
 use reader::Number;
-use reader::Outline;
-use reader::Part;
 use reader::Reading;
 use reader::link_naming;
 use reader::outline_frame;
-use reader::outline_lldpdu;
 use reader::read_frame;
 use reader::read_lldpdu;
-use reader::text_of;
 
 // The parts of a frame's reading count from the octet behind the header (F1); no case has more octets than this.
 const LLDPDU: Part = Part {

@@ -2,12 +2,12 @@
 // The reader decides everything; this program only reads and prints.
 use libc::STDIN_FILENO;
 use libc::STDOUT_FILENO;
+use lldpdu::Extent;
+use lldpdu::Part;
+use lldpdu::text_of;
 use octets::hex_of;
-use reader::Extent;
-use reader::Part;
 use reader::Reading;
 use reader::read_frame;
-use reader::text_of;
 
 // The parts of a reading count from the octet behind the header (F1).
 const LLDPDU: Part = Part {

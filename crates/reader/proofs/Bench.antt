@@ -11,8 +11,8 @@ use Rattle.fields.specs.Text.{charOk, textOk}
 use Rattle.fields.specs.Device.{wantedOf, deviceOf}
 use Rattle.fields.specs.Link.{linkOk, listOk}
 use Rattle.fields.specs.Field.{descriptionOf, linkOf, listOf, isTtc, ttcOf, fieldOf}
-use Rattle.reader.specs.Walk.{headOf, stepOf, walk}
-use Rattle.reader.specs.Extent.{behindPort, behindChassis, extentOf}
+use Rattle.lldpdu.specs.Walk.{headOf, stepOf, walk}
+use Rattle.lldpdu.specs.Extent.{behindPort, behindChassis, extentOf}
 use Rattle.reader.specs.Meaning.{contents, wellFormed, htipOf, Answer, refused, answerOf}
 use Rattle.reader.specs.Frame.{frameOk, onFrame}
 

@@ -9,10 +9,10 @@ use Rattle.fields.specs.Field.{fieldOf}
 use Rattle.fields.specs.declared.Field.{Field}
 use Rattle.fields.specs.declared.Field.the-variants.{Skipped, Malformed, Says}
 use Rattle.fields.proofs.FieldLaws.{Fits, field-fits}
-use Rattle.reader.specs.Walk.{headOf, stepOf, Walked, walk}
+use Rattle.lldpdu.specs.Walk.{headOf, stepOf, Walked, walk}
 use Rattle.reader.specs.Found.{Within, noted, gather}
-use Rattle.reader.proofs.WalkLaws.{walk-refused, walk-end, walk-next, next-fits}
-use Rattle.reader.specs.declared.walk.Step.the-variants as step
+use Rattle.lldpdu.proofs.WalkLaws.{walk-refused, walk-end, walk-next, next-fits}
+use Rattle.lldpdu.specs.declared.walk.Step.the-variants as step
 use Rattle.reader.specs.declared.found.Found.{Found}
 
 -- the information string of a TLV that the walk passes has the length that its header says

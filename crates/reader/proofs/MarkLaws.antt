@@ -18,12 +18,12 @@ use Rattle.fields.specs.Field.{topics, fieldOf}
 use Rattle.fields.specs.declared.Field.{Field}
 use Rattle.fields.specs.declared.Field.the-variants.{Skipped, Malformed, Says}
 use Rattle.fields.proofs.FieldLaws.{Fits, field-fits}
-use Rattle.reader.specs.Walk.{Tlv, Placed, headOf, stepOf, Walked, onStep, walk}
+use Rattle.lldpdu.specs.Walk.{Tlv, Placed, headOf, stepOf, Walked, onStep, walk}
 use Rattle.reader.specs.Found.{unmarked, nothing, markedAt, markOf, noted, gather}
 use Rattle.reader.specs.Meaning.{onField, contents, formed, wellFormed, first}
-use Rattle.reader.proofs.WalkLaws.{whole, stepped}
-use Rattle.reader.specs.declared.walk.Step.{Step}
-use Rattle.reader.specs.declared.walk.Step.the-variants as step
+use Rattle.lldpdu.proofs.WalkLaws.{whole, stepped}
+use Rattle.lldpdu.specs.declared.walk.Step.{Step}
+use Rattle.lldpdu.specs.declared.walk.Step.the-variants as step
 use Rattle.reader.specs.declared.found.Mark.{Mark}
 use Rattle.reader.specs.declared.found.Found.{Found}
 

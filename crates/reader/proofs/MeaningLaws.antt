@@ -18,15 +18,15 @@ use Rattle.fields.specs.declared.Field.{Field}
 use Rattle.fields.specs.declared.Field.the-variants.{Skipped, Malformed, Says}
 use Rattle.fields.proofs.LinkLaws.{link-has}
 use Rattle.fields.proofs.FieldLaws.{Fits, field-fits}
-use Rattle.reader.specs.Walk.{Tlv, Placed, walk}
-use Rattle.reader.specs.Extent.{portLength, restOf, extentOf}
+use Rattle.lldpdu.specs.Walk.{Tlv, Placed, walk}
+use Rattle.lldpdu.specs.Extent.{portLength, restOf, extentOf}
 use Rattle.reader.specs.Found.{nothing, markOf, gather, htipIn}
 use Rattle.reader.specs.Reading.{Ready, tableAt, linkAt, listAt, foundIn, descriptionAt, readingAt, readingOf}
 use Rattle.reader.specs.Meaning.{onField, contents, wellFormed, htipOf, linkIn, firstLink, firstList, tlvsIn, saidIn, answerAt, answerOf, linkMeant, listMeant, saidBy, meant, Reads}
-use Rattle.reader.proofs.ExtentLaws.{good, good-port}
+use Rattle.lldpdu.proofs.ExtentLaws.{good, good-port}
 use Rattle.reader.proofs.MarkLaws.{AllIn, walk-in, textAt, upTo2, Means, topic-means, gather-formed}
-use Rattle.reader.specs.declared.extent.Extent.{Extent}
-use Rattle.reader.specs.declared.extent.Extent.the-variants.{Refused, Octets}
+use Rattle.lldpdu.specs.declared.extent.Extent.{Extent}
+use Rattle.lldpdu.specs.declared.extent.Extent.the-variants.{Refused, Octets}
 use Rattle.reader.specs.declared.found.Mark.{Mark}
 use Rattle.reader.specs.declared.found.Found.{Found}
 use Rattle.reader.specs.declared.reading.Description.{Description}

@@ -13,10 +13,10 @@ use Rattle.fields.specs.declared.Field.{Field}
 use Rattle.fields.specs.declared.Field.the-variants.{Skipped, Malformed, Says}
 use Rattle.fields.proofs.LinkLaws.{link-has}
 use Rattle.fields.proofs.FieldLaws.{Fits, field-fits}
-use Rattle.reader.specs.Walk.{headOf, stepOf, Walked, walk}
+use Rattle.lldpdu.specs.Walk.{headOf, stepOf, Walked, walk}
 use Rattle.reader.specs.Naming.{isLink, isLinkIn, numberIn, numbersIn, Numbered, firstNaming}
-use Rattle.reader.proofs.WalkLaws.{walk-refused, walk-end, walk-next}
-use Rattle.reader.specs.declared.walk.Step.the-variants as step
+use Rattle.lldpdu.proofs.WalkLaws.{walk-refused, walk-end, walk-next}
+use Rattle.lldpdu.specs.declared.walk.Step.the-variants as step
 use Rattle.reader.specs.declared.naming.Naming.the-variants.{Nowhere, Link}
 
 -- a field that speaks of links is a well formed link information

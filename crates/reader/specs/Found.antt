@@ -10,7 +10,7 @@ use Rattle.tally.specs.Tests.{pick, all}
 use Rattle.fields.specs.Field.{category, manufacturer, modelName, modelNumber, topics, fieldOf}
 use Rattle.fields.specs.declared.Field.{Field}
 use Rattle.fields.specs.declared.Field.the-variants.{Skipped, Malformed, Says}
-use Rattle.reader.specs.Walk.{Placed}
+use Rattle.lldpdu.specs.Walk.{Placed}
 use Rattle.reader.specs.declared.found.Mark.{Mark}
 use Rattle.reader.specs.declared.found.Found.{Found}
 

@@ -1,7 +1,4 @@
--- The definitions of this crate, in the order in which they are read: from one TLV to the answer on a frame.
-pub mod Walk
-pub mod Extent
-pub mod Outline
+-- The definitions of this crate, in the order in which they are read: from what is found to the answer on a frame.
 pub mod Found
 pub mod Reading
 pub mod Meaning

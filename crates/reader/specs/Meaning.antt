@@ -12,12 +12,12 @@ use Rattle.octets.specs.Address.{sixAt}
 use Rattle.fields.specs.Field.{portDescription, category, manufacturer, modelName, modelNumber, link, addressList, fieldOf}
 use Rattle.fields.specs.declared.Field.{Field}
 use Rattle.fields.specs.declared.Field.the-variants.{Skipped, Malformed, Says}
-use Rattle.reader.specs.Walk.{Tlv}
-use Rattle.reader.specs.Extent.{refusalIn, octetsIn, portLength, restOf, extentOf}
-use Rattle.reader.specs.Outline.{textOf, noAddress, secondsIn}
+use Rattle.lldpdu.specs.Walk.{Tlv}
+use Rattle.lldpdu.specs.Extent.{refusalIn, octetsIn, portLength, restOf, extentOf}
+use Rattle.lldpdu.specs.Outline.{textOf, noAddress, secondsIn}
 use Rattle.reader.specs.Reading.{readingOf}
-use Rattle.reader.specs.declared.extent.Extent.{Extent}
-use Rattle.reader.specs.declared.extent.Extent.the-variants.{Refused, Octets}
+use Rattle.lldpdu.specs.declared.extent.Extent.{Extent}
+use Rattle.lldpdu.specs.declared.extent.Extent.the-variants.{Refused, Octets}
 use Rattle.reader.specs.declared.reading.Link.{Link}
 use Rattle.reader.specs.declared.reading.Link.the-variants as link-is
 use Rattle.reader.specs.declared.reading.AddressList.{AddressList}

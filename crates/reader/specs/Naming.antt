@@ -11,10 +11,10 @@ use Rattle.fields.specs.Link.{typeCount, numberCount, namesOf}
 use Rattle.fields.specs.Field.{link, fieldOf}
 use Rattle.fields.specs.declared.Field.{Field}
 use Rattle.fields.specs.declared.Field.the-variants.{Skipped, Malformed, Says}
-use Rattle.reader.specs.Walk.{Placed}
-use Rattle.reader.specs.Extent.{restOf, extentOf}
-use Rattle.reader.specs.declared.extent.Extent.{Extent}
-use Rattle.reader.specs.declared.extent.Extent.the-variants as extent-is
+use Rattle.lldpdu.specs.Walk.{Placed}
+use Rattle.lldpdu.specs.Extent.{restOf, extentOf}
+use Rattle.lldpdu.specs.declared.extent.Extent.{Extent}
+use Rattle.lldpdu.specs.declared.extent.Extent.the-variants as extent-is
 use Rattle.reader.specs.declared.naming.Number.{Number}
 use Rattle.reader.specs.declared.naming.Naming.{Naming}
 use Rattle.reader.specs.declared.naming.Naming.the-variants.{Refused, Nowhere, Link}

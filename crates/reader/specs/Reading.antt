@@ -9,12 +9,12 @@ use Rattle.tally.specs.Tests.{pick}
 use Rattle.octets.specs.Numbers.{pairOf}
 use Rattle.octets.specs.Address.{sixAt}
 use Rattle.fields.specs.Field.{portDescription, category, manufacturer, modelName, modelNumber, link, addressList}
-use Rattle.reader.specs.Extent.{portLength, restOf, extentOf}
-use Rattle.reader.specs.Outline.{part, noAddress}
+use Rattle.lldpdu.specs.Extent.{portLength, restOf, extentOf}
+use Rattle.lldpdu.specs.Outline.{part, noAddress}
 use Rattle.reader.specs.Found.{markOf, nothing, gather, htipIn}
-use Rattle.reader.specs.declared.extent.Extent.{Extent}
-use Rattle.reader.specs.declared.extent.Extent.the-variants.{Refused, Octets}
-use Rattle.reader.specs.declared.outline.Part.{Part}
+use Rattle.lldpdu.specs.declared.extent.Extent.{Extent}
+use Rattle.lldpdu.specs.declared.extent.Extent.the-variants.{Refused, Octets}
+use Rattle.lldpdu.specs.declared.outline.Part.{Part}
 use Rattle.reader.specs.declared.found.Mark.{Mark}
 use Rattle.reader.specs.declared.found.Found.{Found}
 use Rattle.reader.specs.declared.reading.Link.{Link}

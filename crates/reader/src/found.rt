@@ -3,12 +3,12 @@
 ghost use mathlib.Core.Path.{_≡_};
 ghost use Prim.Native.Nat.{_+_, _^_, _<_};
 ghost use lib.ListN.{drop};
-ghost use Rattle.reader.specs.Walk.{walk};
+ghost use Rattle.lldpdu.specs.Walk.{walk};
 ghost use Rattle.reader.specs.Found.{Within, nothing, markedAt, noted, gather, htipIn};
-use crate::walk::Step;
-use crate::walk::step_at;
 use fields::Field;
 use fields::field_of;
+use lldpdu::Step;
+use lldpdu::step_at;
 
 // What was met of a topic: how often, up to twice, and where its first content lies.
 pub struct Mark {

@@ -2,13 +2,13 @@
 // The parts of an answer count from the first octet of the LLDPDU, which is octet 14 of the frame.
 ghost use mathlib.Core.Path.{_≡_};
 ghost use Rattle.reader.specs.Frame.{frameOk, onFrame, ReadsFrame};
-ghost use Rattle.reader.specs.Outline.{refusedOutline, outlineOf};
-use crate::outline::Outline;
-use crate::outline::outline_lldpdu;
-use crate::outline::refused_outline;
+ghost use Rattle.lldpdu.specs.Outline.{refusedOutline, outlineOf};
 use crate::reading::Reading;
 use crate::reading::read_lldpdu;
 use crate::reading::refused_reading;
+use lldpdu::Outline;
+use lldpdu::outline_lldpdu;
+use lldpdu::refused_outline;
 use octets::octet;
 use octets::same_six;
 use octets::six;

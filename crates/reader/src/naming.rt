@@ -3,16 +3,16 @@
 ghost use mathlib.Core.Path.{_≡_};
 ghost use Prim.Native.Nat.{_≤_};
 ghost use lib.ListN.{length, drop};
-ghost use Rattle.reader.specs.Walk.{walk};
+ghost use Rattle.lldpdu.specs.Walk.{walk};
 ghost use Rattle.reader.specs.Naming.{isLinkIn, numberIn, numbersIn, Numbered, firstNaming, namingOf};
-use crate::extent::Extent;
-use crate::extent::extent_of;
-use crate::extent::port_length;
-use crate::walk::Step;
-use crate::walk::step_at;
 use fields::Field;
 use fields::field_of;
 use fields::names;
+use lldpdu::Extent;
+use lldpdu::Step;
+use lldpdu::extent_of;
+use lldpdu::port_length;
+use lldpdu::step_at;
 use octets::octet;
 use octets::value_of;
 

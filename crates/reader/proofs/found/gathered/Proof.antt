@@ -7,10 +7,10 @@ use lib.ListN.{length, drop}
 use Rattle.octets.proofs.PartLaws.{part-is}
 use Rattle.fields.specs.Field.{fieldOf}
 use Rattle.fields.specs.declared.Field.{Field}
-use Rattle.reader.specs.Walk.{walk}
 use Rattle.reader.specs.Found.{nothing, noted, gather}
 use Rattle.reader.specs.declared.found.Found.{Found}
-use Rattle.reader.proofs.WalkLaws.{next-fits, next-on}
+use Rattle.lldpdu.specs.Walk.{walk}
+use Rattle.lldpdu.proofs.WalkLaws.{next-fits, next-on}
 use Rattle.reader.proofs.FoundLaws.{gather-refused, gather-end, gather-next, next-within}
 use Rattle.reader.proofs.found.gathered.Statement.{statement}
 use Rattle.reader.proofs.found.gathered.Tie as tie

@@ -3,7 +3,7 @@ use native.Mathlib.Omega.{arith}
 use denote.Ref.{now}
 use borrow.Author.Needs.{needs}
 use Rattle.octets.proofs.PartLaws.{part-from}
-use Rattle.reader.specs.Outline.{outlineOf}
+use Rattle.lldpdu.specs.Outline.{outlineOf}
 use Rattle.reader.proofs.FrameLaws.{frame-size, on-good, on-bad}
 use Rattle.reader.proofs.frame.outline_frame.Statement.{statement}
 use Rattle.reader.proofs.frame.outline_frame.Tie as tie

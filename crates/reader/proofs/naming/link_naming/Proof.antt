@@ -4,9 +4,9 @@ use native.Mathlib.Omega.{arith}
 use denote.Ref.{now}
 use borrow.Author.Needs.{needs}
 use lib.ListN.{drop}
-use Rattle.reader.specs.Walk.{walk}
 use Rattle.reader.specs.Naming.{firstNaming, namingOf}
-use Rattle.reader.proofs.ExtentLaws.{good, good-port}
+use Rattle.lldpdu.specs.Walk.{walk}
+use Rattle.lldpdu.proofs.ExtentLaws.{good, good-port}
 use Rattle.reader.proofs.naming.link_naming.Statement.{statement}
 use Rattle.reader.proofs.naming.link_naming.Tie as tie
 

@@ -5,9 +5,9 @@ use denote.Ref.{now}
 use borrow.Author.Needs.{needs}
 use lib.ListN.{length, drop}
 use Rattle.octets.proofs.PartLaws.{part-is}
-use Rattle.reader.specs.Walk.{walk}
 use Rattle.reader.specs.Naming.{firstNaming}
-use Rattle.reader.proofs.WalkLaws.{next-fits, next-on}
+use Rattle.lldpdu.specs.Walk.{walk}
+use Rattle.lldpdu.proofs.WalkLaws.{next-fits, next-on}
 use Rattle.reader.proofs.NamingLaws.{link-numbered, naming-refused, naming-end, naming-hit, naming-other, naming-miss}
 use Rattle.reader.proofs.naming.naming_from.Statement.{statement}
 use Rattle.reader.proofs.naming.naming_from.Tie as tie

@@ -3,7 +3,7 @@ use native.Mathlib.Omega.{arith}
 use denote.Ref.{now}
 use borrow.Author.Needs.{needs}
 use Rattle.reader.specs.Reading.{readingOf}
-use Rattle.reader.proofs.ExtentLaws.{good, good-port}
+use Rattle.lldpdu.proofs.ExtentLaws.{good, good-port}
 use Rattle.reader.proofs.MeaningLaws.{ready, assembled, reads-exactly}
 use Rattle.reader.proofs.reading.read_lldpdu.Statement.{statement}
 use Rattle.reader.proofs.reading.read_lldpdu.Tie as tie

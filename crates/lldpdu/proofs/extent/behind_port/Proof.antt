@@ -1,0 +1,54 @@
+use mathlib.Core.Path.{sym, _∙_}
+use native.Mathlib.Omega.{arith}
+use denote.Ref.{now}
+use borrow.Author.Needs.{needs}
+use Rattle.lldpdu.proofs.ExtentLaws.{need-short, need-good, need-bad, behind-port}
+use Rattle.lldpdu.proofs.extent.behind_port.Statement.{statement}
+use Rattle.lldpdu.proofs.extent.behind_port.Tie as tie
+
+add-head-at : tie.Need-add-head-at
+add-head-at c = omega arith
+
+head-at-requires : tie.Need-head-at-requires
+head-at-requires c κs = search needs
+
+enum-told : tie.Need-enum-told
+enum-told c = search needs
+
+enum-known-kind : tie.Need-enum-known-kind
+enum-known-kind c = search needs
+
+seconds-fit-requires : tie.Need-seconds-fit-requires
+seconds-fit-requires c κs = search needs
+
+add-rest-extent : tie.Need-add-rest-extent
+add-rest-extent c = omega (arith, c .before .before .before .before .before .before .before .pre)
+
+rest-extent-requires : tie.Need-rest-extent-requires
+rest-extent-requires c κs = search needs
+
+returns : tie.Need-returns
+returns c = sym (behind-port (now (c .before .before .before .before .args .s)) (c .before .before .before .before .pre .0) ∙ need-short _ _ _ (sym (c .before .before .head-at .ensures) ∙ c .enum-told .given .1))
+
+returns-2 : tie.Need-returns-2
+returns-2 c =
+    c .rest-extent .ensures
+    ∙ sym (behind-port (now (c .before .before .before .before .before .before .before .before .args .s)) (c .before .before .before .before .before .before .before .before .pre .0) ∙ need-good _ _ _ (sym (c .before .before .before .before .before .before .head-at .ensures) ∙ c .before .before .before .before .kind .given .1) (sym (c .before .before .seconds-fit .ensures) ∙ c .before .if1 .taken))
+
+returns-3 : tie.Need-returns-3
+returns-3 c = sym (behind-port (now (c .before .before .before .before .before .before .before .args .s)) (c .before .before .before .before .before .before .before .pre .0) ∙ need-bad _ _ _ (sym (c .before .before .before .before .before .head-at .ensures) ∙ c .before .before .before .kind .given .1) (sym (c .before .seconds-fit .ensures) ∙ c .if1 .left))
+
+pub behind-port-spec : {M : Type 1} → statement M
+behind-port-spec =
+    tie.close
+    (tie.spec
+    add-head-at
+    head-at-requires
+    enum-told
+    enum-known-kind
+    seconds-fit-requires
+    add-rest-extent
+    rest-extent-requires
+    returns
+    returns-2
+    returns-3)

@@ -1,0 +1,17 @@
+use mathlib.Core.Path.{sym}
+use borrow.Author.Tests.{eq-eqb, ne-eqb}
+use Rattle.tally.proofs.TestsLaws.{both-end}
+use Rattle.lldpdu.proofs.extent.chassis_fits.Statement.{statement}
+use Rattle.lldpdu.proofs.extent.chassis_fits.Tie as tie
+
+returns : tie.Need-returns
+returns c = rw (ne-eqb _ _ (c .if1 .taken))
+
+returns-2 : tie.Need-returns-2
+returns-2 c = rw (eq-eqb _ _ (c .before .if1 .left), ne-eqb _ _ (c .if2 .taken))
+
+returns-3 : tie.Need-returns-3
+returns-3 c = rw (eq-eqb _ _ (c .before .if1 .left), eq-eqb _ _ (c .if2 .left)) (sym (both-end _))
+
+pub chassis-fits-spec : {M : Type 1} → statement M
+chassis-fits-spec = tie.close (tie.spec returns returns-2 returns-3)

@@ -1,0 +1,16 @@
+// The LLDPDU: one TLV at a place, the extent of the whole, and its outline.
+// Validity, identity and seconds are decided here; what the other fields say is the reader's.
+mod extent;
+mod outline;
+mod walk;
+
+pub use extent::Extent;
+pub use extent::extent_of;
+pub use extent::port_length;
+pub use outline::Outline;
+pub use outline::Part;
+pub use outline::outline_lldpdu;
+pub use outline::refused_outline;
+pub use outline::text_of;
+pub use walk::Step;
+pub use walk::step_at;

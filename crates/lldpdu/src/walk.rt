@@ -1,0 +1,69 @@
+// The walk: one TLV at a place, first by its header alone, then by the rules for a TLV behind the first three.
+// This is the one place that knows how far a TLV reaches.
+ghost use mathlib.Core.Path.{_≡_};
+ghost use lib.ListN.{drop};
+ghost use Rattle.lldpdu.specs.Walk.{headOf, stepOf};
+use octets::kind_of;
+use octets::len_of;
+
+// The header at a place, where header and information string are whole.
+pub enum Head {
+    Short,
+    Whole { kind: u8, len: usize },
+}
+
+pub(crate) fn head_at(s: &[u8], at: usize) -> Head
+    ensures { λ r. ⌜ r ≡ headOf (drop at (now (s .entry))) ⌝ }
+{
+    if s.len() <= at {
+        return Head::Short;
+    }
+    let left = s.len() - at;
+    if left < 2 {
+        return Head::Short;
+    }
+    let kind = kind_of(s[at]);
+    let len = len_of(s[at], s[at + 1]);
+    if len <= left - 2 {
+        Head::Whole { kind, len }
+    } else {
+        Head::Short
+    }
+}
+
+// What the walk does behind the first three TLVs: it is refused, it is over, or it goes on behind one more TLV.
+pub enum Step {
+    Refused(u8),
+    End(usize),
+    Next { kind: u8, start: usize, len: usize },
+}
+
+// At one TLV, a header or body that runs past the end comes first (R11).
+pub fn step_at(s: &[u8], at: usize) -> Step
+    ensures { λ r. ⌜ r ≡ stepOf (headOf (drop at (now (s .entry)))) at ⌝ }
+{
+    match head_at(s, at) {
+        Head::Short => Step::Refused(5),
+        Head::Whole { kind, len } => {
+            let start = at + 2;
+            match kind {
+                0 => {
+                    if len == 0 {
+                        Step::End(start)
+                    } else {
+                        Step::Refused(6)
+                    }
+                }
+                1..=3 => Step::Refused(6),
+                127 => {
+                    if len < 4 {
+                        Step::Refused(6)
+                    } else {
+                        Step::Next { kind, start, len }
+                    }
+                }
+                _ => Step::Next { kind, start, len },
+            }
+        }
+    }
+}
