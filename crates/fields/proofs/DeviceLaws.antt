@@ -1,4 +1,5 @@
 -- Laws of device information: the ranges of the code are the rule's list of IDs, and the field by what its ID wants.
+-- The code decides by ranges, the rule by single IDs.
 use Prim.Native.Nat.{ℕ, _≤_}
 use mathlib.Core.Path.{_≡_}
 use mathlib.Core.List.{List}

@@ -1,4 +1,5 @@
 -- Laws of link information and address list: the tests by the counts that the code has read.
+-- `link-has` says what a well formed link information has.
 use Prim.Native.Nat.{ℕ, _+_, _*_, _≤_}
 use mathlib.Core.Path.{_≡_}
 use mathlib.Core.List.{List, [], _∷_}

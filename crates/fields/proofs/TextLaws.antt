@@ -1,4 +1,5 @@
 -- Laws of the octets of a port description: the ranges of the code are the list of the rule, and the loop over a text.
+-- The code decides by ranges, the rule by single characters.
 use Prim.Native.Nat.{ℕ, _+_, _<_, _≤_}
 use mathlib.Core.Path.{_≡_, refl, sym}
 use mathlib.Core.List.{List}

@@ -1,4 +1,5 @@
 -- The octets that a port description may have (T10).
+-- The rule lists them one by one; the code tests ranges.
 use Prim.Native.Nat.{ℕ}
 use mathlib.Core.List.{List, [], _∷_}
 use mathlib.Core.Bool.{Bool, true, false}

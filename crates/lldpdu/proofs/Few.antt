@@ -1,4 +1,5 @@
 -- An LLDPDU is refused with 4, 5 or 6 and nothing else (R4 to R6).
+-- The walk gives 5 or 6, the first three TLVs 4 or 5.
 use Prim.{Unit, tt}
 use Prim.Native.Nat.{ℕ, zero, suc, _+_, _≤_}
 use mathlib.Core.Path.{_≡_, refl}

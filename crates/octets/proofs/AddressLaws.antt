@@ -1,4 +1,5 @@
 -- Laws of addresses: the test for sameness says what it should, and what the loop over six octets cites.
+-- `same-equal` and `same-refl` pass between the test and equality.
 use Prim.Native.Nat.{ℕ, _+_, _<_, _≤_}
 use mathlib.Core.Path.{_≡_, refl, ap₂}
 use mathlib.Core.List.{List, [], _∷_}

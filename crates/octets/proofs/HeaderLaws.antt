@@ -1,4 +1,5 @@
 -- Laws of the TLV header: split and join undo each other, and the code's shifts and masks are the arithmetic of specs/Header.antt.
+-- The writer needs the first half, the reader the second.
 use Prim.Native.Nat.{ℕ, _*_, _/_, _%_, _^_, _<_}
 use mathlib.Core.Path.{_≡_}
 use native.Mathlib.Omega.{arith}

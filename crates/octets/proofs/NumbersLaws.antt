@@ -1,4 +1,5 @@
 -- Laws of numbers of several octets: one octet more, and the end, as the loop over them goes.
+-- They hold for any number of octets.
 use Prim.Native.Nat.{ℕ, _+_, _*_, _<_, _≤_}
 use mathlib.Core.Path.{_≡_}
 use mathlib.Core.List.{List}

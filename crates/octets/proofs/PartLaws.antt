@@ -1,4 +1,5 @@
 -- Laws of parts of a text: a part as a callee has it, and a part of a part.
+-- They hold for any text, any start and any length.
 use Prim.Native.Nat.{ℕ, zero, suc, _+_, _-_, _<_, _≤_}
 use mathlib.Core.Path.{_≡_, sym, ap, ap₂, _∙_}
 use mathlib.Core.List.{List, [], _∷_}

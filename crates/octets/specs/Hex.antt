@@ -1,4 +1,5 @@
 -- An octet as it is printed (P2): two capital hex digits, in ASCII.
+-- Addresses and port IDs are printed so.
 use Prim.Native.Nat.{ℕ, _+_, _/_, _%_}
 use mathlib.Core.List.{List, [], _∷_}
 use lib.Dec.{ltb}

@@ -1,4 +1,5 @@
 -- Several octets as one number, high octet first.
+-- Seconds to live have two octets, interface types and port numbers up to four.
 use Prim.Native.Nat.{ℕ, _+_, _*_}
 use mathlib.Core.List.{List, [], _∷_}
 

@@ -1,4 +1,5 @@
 -- The answers agree with each other: the outline with the reading, and a frame with its LLDPDU (A5).
+-- They hold for every LLDPDU, valid or not, and for every header that fits.
 use Prim.Native.Nat.{ℕ, _+_, _≤_}
 use mathlib.Core.Path.{_≡_, refl, ap, _∙_}
 use mathlib.Core.List.{List, [], _∷_, _++_}

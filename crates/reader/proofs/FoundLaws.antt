@@ -1,4 +1,5 @@
 -- Laws of what is gathered: one step of the walk, in the shape of the loop.
+-- A field of the walk is within its information string, so that the sums of the code do not wrap.
 use Prim.Native.Nat.{ℕ, _+_, _-_, _≤_}
 use mathlib.Core.Path.{_≡_, ap, _∙_}
 use mathlib.Core.List.{List}

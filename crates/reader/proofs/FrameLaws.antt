@@ -1,4 +1,5 @@
 -- Laws of the frame: the answer on a frame by whether it fits, and what a valid one has (A5).
+-- The code on a frame cites on-good and on-bad; frame-exactly adds what the one answer means.
 use Prim.Native.Nat.{ℕ, _≤_}
 use mathlib.Core.Path.{_≡_, refl, ap, _∙_}
 use mathlib.Core.List.{List, [], _∷_}

@@ -1,4 +1,5 @@
 -- The laws of this crate's definitions.
+-- The meaning of a reading comes first, then the theorems that others cite.
 pub mod FoundLaws
 pub mod MarkLaws
 pub mod MeaningLaws

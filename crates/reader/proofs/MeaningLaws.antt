@@ -1,4 +1,5 @@
 -- The reading means the answer of the rules: verdict, texts, link information and address list.
+-- `reading-means` is the theorem; the code cites `ready`, `assembled` and `reads-exactly`.
 use Prim.{Unit, tt}
 use Prim.Native.Nat.{ℕ, zero, suc, _+_, _-_, _*_, _<_, _≤_}
 use mathlib.Core.Path.{_≡_, refl, sym, ap, _∙_}

@@ -1,4 +1,5 @@
 -- Laws of who sees an address: one step of the walk in the shape of the loop, and what a well formed link information lends.
+-- The loop cites naming-hit, naming-miss and naming-other with the information string as it has it.
 use Prim.Native.Nat.{ℕ, _+_, _-_, _≤_}
 use mathlib.Core.Path.{_≡_, ap, _∙_}
 use mathlib.Core.List.{List}

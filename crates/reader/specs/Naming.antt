@@ -1,4 +1,5 @@
 -- Who sees an address (A4): the first well-formed link information that names it, with its two numbers.
+-- The rest of the LLDPDU, the verdict and the address list play no part in it.
 use Prim.Native.Nat.{ℕ, _+_, _≤_}
 use mathlib.Core.List.{List, [], _∷_}
 use mathlib.Core.Bool.{Bool, false}

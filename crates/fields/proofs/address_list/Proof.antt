@@ -1,3 +1,5 @@
+-- `fields::address_list` meets its contract: one test, on the count that was read.
+-- The law is list-count of LinkLaws.
 use denote.Ref.{now}
 use borrow.Author.Tests.{eq-eqb, ne-eqb}
 use borrow.Author.Needs.{needs}

@@ -1,3 +1,5 @@
+-- `fields::description` meets its contract: length first, then the characters.
+-- Each return cites the two tests that led to it.
 use mathlib.Core.Path.{sym, _∙_}
 use borrow.Author.Tests.{le-leb, lt-leb}
 use borrow.Author.Needs.{needs}

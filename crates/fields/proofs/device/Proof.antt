@@ -1,3 +1,5 @@
+-- `fields::device` meets its contract: each return by what the ID wants and the tests that led to it.
+-- The law is device-at of DeviceLaws.
 use mathlib.Core.Path.{sym, _∙_}
 use denote.Ref.{now}
 use borrow.Author.Tests.{eq-eqb, ne-eqb, le-leb, lt-leb, lt-ltb}

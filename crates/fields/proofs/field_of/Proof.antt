@@ -1,3 +1,5 @@
+-- `fields::field_of` meets its contract: one case for each type that is looked at.
+-- Each return cites what the type's own function ensures.
 use mathlib.Core.Path.{sym, _∙_}
 use borrow.Author.Tests.{ne-eqb}
 use borrow.Author.Needs.{needs}

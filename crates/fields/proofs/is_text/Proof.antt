@@ -1,3 +1,5 @@
+-- `fields::is_text` meets its contract: what is left of the text is well formed exactly if the whole is.
+-- One octet is text-step, the end is text-end of TextLaws.
 use Prim.Native.Nat.{_-_}
 use mathlib.Core.Path.{_≡_, refl, sym, _∙_}
 use native.Mathlib.Omega.{arith}

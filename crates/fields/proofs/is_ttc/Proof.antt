@@ -1,3 +1,5 @@
+-- `fields::is_ttc` meets its contract: three octets, front to back.
+-- Each return cites the octets that were read.
 use mathlib.Core.Path.{sym, _∙_}
 use denote.Ref.{now}
 use borrow.Author.Tests.{eq-eqb, ne-eqb}

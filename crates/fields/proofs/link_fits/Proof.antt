@@ -1,3 +1,5 @@
+-- `fields::link_fits` meets its contract: each return by the counts read so far.
+-- The law is link-counts of LinkLaws.
 use mathlib.Core.Path.{refl, sym, _∙_}
 use denote.Ref.{now}
 use borrow.Author.Tests.{not-true, not-false}

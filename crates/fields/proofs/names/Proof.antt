@@ -1,3 +1,5 @@
+-- `fields::names` meets its contract: none of the addresses passed is the one asked for.
+-- The laws are some-miss and some-hit of tally's RangesLaws.
 use Prim.Native.Nat.{_≤_, _+_, _-_, _*_}
 use mathlib.Core.Path.{_≡_, sym, ap, _∙_}
 use mathlib.Core.Bool.{false}

@@ -1,3 +1,5 @@
+-- `fields::one_to_four` meets its contract: two tests.
+-- Nothing more is needed.
 use borrow.Author.Tests.{le-leb, lt-leb}
 use Rattle.fields.proofs.one_to_four.Statement.{statement}
 use Rattle.fields.proofs.one_to_four.Tie as tie

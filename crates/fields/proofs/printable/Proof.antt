@@ -1,3 +1,5 @@
+-- `fields::printable` meets its contract: each range of the code is settled by one computed test.
+-- The law is settled of TextLaws; = and _ stand alone and are computed by themselves.
 use mathlib.Core.Path.{refl}
 use mathlib.Core.Bool.{true, false}
 use mathlib.Core.Logic.{⊎-elim}

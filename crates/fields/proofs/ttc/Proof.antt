@@ -1,3 +1,5 @@
+-- `fields::ttc` meets its contract: one case for each subtype.
+-- Each return cites what the subtype's own function ensures.
 use borrow.Author.Tests.{ne-eqb}
 use borrow.Author.Needs.{needs}
 use Rattle.fields.specs.Field.{ttcOf}

@@ -1,3 +1,5 @@
+-- `fields::wanted_of` meets its contract: each range of the code is a case of the rule.
+-- The laws are wanted-model and wanted-free of DeviceLaws.
 use mathlib.Core.Path.{_≡_}
 use native.Mathlib.Omega.{arith}
 use Rattle.fields.specs.Device.{wantedOf}

@@ -1,3 +1,5 @@
+-- `frames::run_all` meets its contract: the cases are counted, so the loop ends.
+-- Nothing else is claimed of a program that prints.
 use Prim.Native.Nat.{_≤_, _-_}
 use borrow.Author.Needs.{needs}
 use Rattle.frames.proofs.run_all.Statement.{statement}

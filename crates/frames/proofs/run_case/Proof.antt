@@ -1,3 +1,5 @@
+-- `frames::run_case` meets its contract: a case is read into the front of the array.
+-- The front is as long as it was said to be.
 use mathlib.Core.Path.{sym}
 use borrow.Author.Needs.{needs}
 use lib.Seq.{length-take-le}

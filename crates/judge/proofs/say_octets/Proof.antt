@@ -1,3 +1,5 @@
+-- `judge::say_octets` meets its contract: the index stays below the length.
+-- Nothing else is claimed of a program that prints.
 use Prim.Native.Nat.{_≤_, _-_}
 use borrow.Author.Needs.{needs}
 use lib.ListN.{length}

@@ -1,3 +1,5 @@
+-- `octets::digit_of` meets its contract: one test decides between digits and letters.
+-- Nothing more is needed.
 use borrow.Author.Tests.{lt-ltb, le-ltb}
 use borrow.Author.Needs.{needs}
 use Rattle.octets.proofs.digit_of.Statement.{statement}

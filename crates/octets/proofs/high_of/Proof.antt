@@ -1,3 +1,5 @@
+-- `octets::high_of` meets its contract: the shifts and masks are the arithmetic of the rule.
+-- The law is high-bits of HeaderLaws.
 use Prim.Native.Nat.{_/_}
 use native.Mathlib.Omega.{arith}
 use lib.Bits.{mask-lt}

@@ -1,3 +1,5 @@
+-- `octets::len_of` meets its contract: the shifts and masks are the arithmetic of the rule.
+-- The law is length-bits of HeaderLaws.
 use native.Mathlib.Omega.{arith}
 use lib.Bits.{mask-lt}
 use Rattle.octets.proofs.HeaderLaws.{length-bits}

@@ -1,3 +1,5 @@
+-- `octets::low_of` meets its contract: a mask of eight bits is a remainder.
+-- Nothing more than lib.Bits is needed.
 use lib.Bits.{and-mask, mask-lt}
 use Rattle.octets.proofs.low_of.Statement.{statement}
 use Rattle.octets.proofs.low_of.Tie as tie

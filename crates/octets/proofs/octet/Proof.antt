@@ -1,3 +1,5 @@
+-- `octets::octet` meets its contract: an index below the length reads the octet, any other gives 0.
+-- The second case is the default of getD.
 use mathlib.Core.Path.{sym}
 use denote.Ref.{now}
 use borrow.Author.Needs.{needs}

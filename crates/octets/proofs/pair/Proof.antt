@@ -1,3 +1,5 @@
+-- `octets::pair` meets its contract: a shift by eight bits leaves room for the low octet.
+-- Nothing more than lib.Bits is needed.
 use Prim.Native.Nat.{_*_, _%_, _^_}
 use mathlib.Core.Path.{_≡_}
 use native.Mathlib.Omega.{arith}

@@ -1,3 +1,5 @@
+-- `octets::same_six` meets its contract: what is left of the two addresses is the same exactly if the whole is.
+-- One octet is same-step, the end is same-end of AddressLaws.
 use Prim.Native.Nat.{_≤_, _-_}
 use mathlib.Core.Path.{_≡_, refl, sym, _∙_}
 use native.Mathlib.Omega.{arith}

@@ -1,3 +1,5 @@
+-- `octets::six` meets its contract: six total reads, or six zeros past the end.
+-- The second case is six-past of AddressLaws.
 use mathlib.Core.Path.{sym}
 use denote.Ref.{now}
 use borrow.Author.Needs.{needs}

@@ -1,3 +1,5 @@
+-- `octets::value_of` meets its contract: what is still to come, behind the value so far, is the value of the whole.
+-- The invariant also bounds the value by its octets, so that no product wraps.
 use Prim.Native.Nat.{ℕ, _≤_, _<_, _-_}
 use mathlib.Core.Path.{_≡_, refl, sym, _∙_}
 use native.Mathlib.Omega.{arith}

@@ -1,3 +1,5 @@
+-- `lldpdu::extent::behind_chassis` meets its contract: TLV 2, then what is behind it.
+-- The laws are need-short, need-good and need-bad of ExtentLaws.
 use Prim.Native.Nat.{ℕ}
 use mathlib.Core.Path.{sym, ap, _∙_}
 use denote.Ref.{now}

@@ -1,3 +1,5 @@
+-- `lldpdu::extent::behind_port` meets its contract: TLV 3, then the walk.
+-- The laws are need-short, need-good and need-bad of ExtentLaws.
 use mathlib.Core.Path.{sym, _∙_}
 use native.Mathlib.Omega.{arith}
 use denote.Ref.{now}

@@ -1,3 +1,5 @@
+-- `lldpdu::extent::chassis_fits` meets its contract: three tests, front to back.
+-- Each return cites the tests that led to it.
 use mathlib.Core.Path.{sym}
 use borrow.Author.Tests.{eq-eqb, ne-eqb}
 use Rattle.tally.proofs.TestsLaws.{both-end}

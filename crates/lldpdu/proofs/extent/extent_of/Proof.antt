@@ -1,3 +1,5 @@
+-- `lldpdu::extent::extent_of` meets its contract: TLV 1, then what is behind it.
+-- The laws are need-short, need-good and need-bad of ExtentLaws.
 use Prim.Native.Nat.{ℕ}
 use mathlib.Core.Path.{sym, ap, _∙_}
 use borrow.Author.Needs.{needs}

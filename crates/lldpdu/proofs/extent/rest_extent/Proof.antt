@@ -1,3 +1,5 @@
+-- `lldpdu::extent::rest_extent` meets its contract: the walk from here has the extent of the walk from the start.
+-- The laws are walk-refused, walk-end and walk-next of WalkLaws.
 use Prim.Native.Nat.{_-_}
 use mathlib.Core.Path.{_≡_, refl, sym, ap, _∙_}
 use native.Mathlib.Omega.{arith}

@@ -1,3 +1,5 @@
+-- `lldpdu::extent::seconds_fit` meets its contract: two tests.
+-- Each return cites the tests that led to it.
 use borrow.Author.Tests.{eq-eqb, ne-eqb}
 use Rattle.lldpdu.proofs.extent.seconds_fit.Statement.{statement}
 use Rattle.lldpdu.proofs.extent.seconds_fit.Tie as tie

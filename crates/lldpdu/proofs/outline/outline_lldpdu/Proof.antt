@@ -1,3 +1,5 @@
+-- `lldpdu::outline::outline_lldpdu` meets its contract: a refusal alone, or each field by the octets read.
+-- A valid LLDPDU has a port ID of 2 to 256 octets (good-port), so no sum wraps.
 use mathlib.Core.Path.{sym, _∙_}
 use native.Mathlib.Omega.{arith}
 use denote.Ref.{now}

@@ -1,3 +1,5 @@
+-- `lldpdu::outline::text_of` meets its contract: nothing, all that is left, or the part itself.
+-- The laws are part-from and part-is of octets' PartLaws.
 use mathlib.Core.Path.{sym, _∙_}
 use native.Mathlib.Omega.{arith}
 use denote.Ref.{now}

@@ -1,3 +1,5 @@
+-- `lldpdu::walk::head_at` meets its contract: too short, too long, or whole.
+-- The laws are head-short, head-long and head-whole of WalkLaws.
 use mathlib.Core.Path.{sym}
 use native.Mathlib.Omega.{arith}
 use denote.Ref.{now}

@@ -1,3 +1,5 @@
+-- `lldpdu::walk::step_at` meets its contract: each return by the header and the tests that led to it.
+-- A whole TLV ends within the slice (whole-fits), so its start does not wrap.
 use mathlib.Core.Path.{sym, _∙_}
 use native.Mathlib.Omega.{arith}
 use denote.Ref.{now}

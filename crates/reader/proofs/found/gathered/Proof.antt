@@ -1,3 +1,5 @@
+-- `reader::found::gathered` meets its contract: what is found so far, with the TLVs to come, is what the whole walk finds.
+-- The laws are gather-refused, gather-end and gather-next of FoundLaws.
 use Prim.Native.Nat.{_+_, _-_}
 use mathlib.Core.Path.{_≡_, refl, sym, ap, _∙_}
 use native.Mathlib.Omega.{arith}

@@ -1,3 +1,5 @@
+-- `reader::found::is_htip` meets its contract: five tests, front to back.
+-- Each return cites the tests that led to it.
 use mathlib.Core.Path.{sym}
 use borrow.Author.Tests.{eq-eqb, ne-eqb, le-leb, lt-leb}
 use borrow.Author.Needs.{needs}

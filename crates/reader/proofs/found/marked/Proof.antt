@@ -1,3 +1,5 @@
+-- `reader::found::marked` meets its contract: the first is kept, a second only counted.
+-- One test decides.
 use borrow.Author.Tests.{eq-eqb, ne-eqb}
 use Rattle.reader.specs.Found.{markedAt}
 use Rattle.reader.proofs.found.marked.Statement.{statement}

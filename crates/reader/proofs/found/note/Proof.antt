@@ -1,3 +1,5 @@
+-- `reader::found::note` meets its contract: one case for each kind of field.
+-- A topic is one of the seven and its content lies inside, by what is required.
 use native.Mathlib.Omega.{arith}
 use borrow.Author.Needs.{needs}
 use Rattle.reader.specs.Found.{noted}

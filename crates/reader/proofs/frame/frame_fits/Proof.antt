@@ -1,3 +1,5 @@
+-- `reader::frame::frame_fits` meets its contract: length, type and destination, front to back.
+-- Each return cites the tests that led to it.
 use Prim.Native.Nat.{ℕ}
 use mathlib.Core.Path.{sym, ap, _∙_}
 use mathlib.Core.List.{List}

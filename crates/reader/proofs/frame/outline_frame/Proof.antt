@@ -1,3 +1,5 @@
+-- `reader::frame::outline_frame` meets its contract: refusal 3, or the outline of the octets from 14 on.
+-- The laws are on-good and on-bad of FrameLaws.
 use mathlib.Core.Path.{sym, ap, _∙_}
 use native.Mathlib.Omega.{arith}
 use denote.Ref.{now}

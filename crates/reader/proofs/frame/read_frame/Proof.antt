@@ -1,3 +1,5 @@
+-- `reader::frame::read_frame` meets its contract: refusal 3, or the reading of the octets from 14 on.
+-- The laws are on-good, on-bad and frame-exactly of FrameLaws.
 use mathlib.Core.Path.{sym, ap, _∙_}
 use native.Mathlib.Omega.{arith}
 use denote.Ref.{now}

@@ -1,3 +1,5 @@
+-- `reader::naming::is_link` meets its contract: one case for each kind of field.
+-- Each return cites what field_of ensures.
 use mathlib.Core.Path.{sym, _∙_}
 use borrow.Author.Needs.{needs}
 use Rattle.reader.proofs.naming.is_link.Statement.{statement}

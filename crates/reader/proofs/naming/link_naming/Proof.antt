@@ -1,3 +1,5 @@
+-- `reader::naming::link_naming` meets its contract: a refusal alone, or the walk behind the first three TLVs.
+-- A valid LLDPDU has a port ID of 2 to 256 octets (good-port), so the sum does not wrap.
 use Prim.Native.Nat.{ℕ, _+_}
 use mathlib.Core.Path.{sym, ap, _∙_}
 use native.Mathlib.Omega.{arith}

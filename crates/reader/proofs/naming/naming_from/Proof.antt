@@ -1,3 +1,5 @@
+-- `reader::naming::naming_from` meets its contract: the first hit from here is the first hit of the whole walk.
+-- The laws are naming-hit, naming-miss and naming-other of NamingLaws.
 use Prim.Native.Nat.{_-_}
 use mathlib.Core.Path.{_≡_, refl, sym, _∙_}
 use native.Mathlib.Omega.{arith}

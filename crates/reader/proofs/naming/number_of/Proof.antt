@@ -1,3 +1,5 @@
+-- `reader::naming::number_of` meets its contract: at most four octets, so all of them count.
+-- Nothing more is needed.
 use denote.Ref.{now}
 use borrow.Author.Needs.{needs}
 use lib.Seq.{take-all}

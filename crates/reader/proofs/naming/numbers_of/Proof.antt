@@ -1,3 +1,5 @@
+-- `reader::naming::numbers_of` meets its contract: the two numbers are cut out at the counts that were read.
+-- The laws are counts-short and numbers-at of NamingLaws.
 use Prim.Native.Nat.{_+_}
 use mathlib.Core.Path.{ap, ap₂, _∙_}
 use native.Mathlib.Omega.{arith}

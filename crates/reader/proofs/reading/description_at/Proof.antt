@@ -1,3 +1,5 @@
+-- `reader::reading::description_at` meets its contract: each field by what its own function ensures.
+-- Nothing more is needed.
 use borrow.Author.Needs.{needs}
 use Rattle.reader.proofs.reading.description_at.Statement.{statement}
 use Rattle.reader.proofs.reading.description_at.Tie as tie

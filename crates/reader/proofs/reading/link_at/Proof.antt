@@ -1,3 +1,5 @@
+-- `reader::reading::link_at` meets its contract: absent, or the counts that were read.
+-- Each return cites the octets that were read.
 use borrow.Author.Tests.{eq-eqb, ne-eqb}
 use borrow.Author.Needs.{needs}
 use Rattle.reader.specs.Reading.{linkAt}

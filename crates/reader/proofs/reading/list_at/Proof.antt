@@ -1,3 +1,5 @@
+-- `reader::reading::list_at` meets its contract: absent, or the part at the mark.
+-- One test decides.
 use borrow.Author.Tests.{eq-eqb, ne-eqb}
 use borrow.Author.Needs.{needs}
 use Rattle.reader.specs.Reading.{listAt}

@@ -1,3 +1,5 @@
+-- `reader::reading::read_lldpdu` meets its contract: a refusal alone, or the parts put together.
+-- The laws are ready, assembled and reads-exactly of MeaningLaws.
 use mathlib.Core.Path.{sym, _∙_}
 use native.Mathlib.Omega.{arith}
 use denote.Ref.{now}
