@@ -1,3 +1,6 @@
+use Prim.Native.Nat.{_+_}
+use native.Mathlib.Omega.{arith}
+use lib.ListN.{length}
 -- `fields::device` meets its contract: each return by what the ID wants and the tests that led to it.
 -- The law is device-at of DeviceLaws.
 use mathlib.Core.Path.{sym, _∙_}
@@ -46,34 +49,53 @@ add-if3 c = search needs
 
 returns-2 : tie.Need-returns-2
 returns-2 c =
-    sym (device-at (now (c .before .before .before .before .before .before .before .before .before .args .part)) (c .before .before .before .before .before .before .before .if1 .left) (c .before .before .before .before .wanted-of .ensures) (c .before .before .before .before .before .before .octet .ensures) (c .before .before .before .before .before .octet2 .ensures) ∙ rw (c .before .before .most .given .1, ne-eqb _ _ (c .if3 .taken)))
+    let b = now (c .before .before .before .before .before .before .before .before .before .args .part) in
+    let s = c .before .before .before .before .before .octet2 .result in
+    sym (device-at b (c .before .before .before .before .before .before .before .if1 .left) (c .before .before .before .before .wanted-of .ensures) (c .before .before .before .before .before .before .octet .ensures) (c .before .before .before .before .before .octet2 .ensures)
+    ∙ rw (c .before .before .most .given .1, ne-eqb (length b) (6 + s) (λ e. omega arith)))
 
 returns-3 : tie.Need-returns-3
 returns-3 c =
-    sym (device-at (now (c .before .before .before .before .before .before .before .before .before .before .args .part)) (c .before .before .before .before .before .before .before .before .if1 .left) (c .before .before .before .before .before .wanted-of .ensures) (c .before .before .before .before .before .before .before .octet .ensures) (c .before .before .before .before .before .before .octet2 .ensures) ∙ rw (c .before .before .before .most .given .1, eq-eqb _ _ (c .before .if3 .left), lt-leb _ _ (c .if4 .taken)))
+    let b = now (c .before .before .before .before .before .before .before .before .before .before .args .part) in
+    let s = c .before .before .before .before .before .before .octet2 .result in
+    sym (device-at b (c .before .before .before .before .before .before .before .before .if1 .left) (c .before .before .before .before .before .wanted-of .ensures) (c .before .before .before .before .before .before .before .octet .ensures) (c .before .before .before .before .before .before .octet2 .ensures)
+    ∙ rw (c .before .before .before .most .given .1, eq-eqb (length b) (6 + s) (omega arith), lt-leb 1 s (omega arith)))
 
 returns-4 : tie.Need-returns-4
 returns-4 c =
-    sym (device-at (now (c .before .before .before .before .before .before .before .before .before .before .before .args .part)) (c .before .before .before .before .before .before .before .before .before .if1 .left) (c .before .before .before .before .before .before .wanted-of .ensures) (c .before .before .before .before .before .before .before .before .octet .ensures) (c .before .before .before .before .before .before .before .octet2 .ensures) ∙ rw (c .before .before .before .before .most .given .1, eq-eqb _ _ (c .before .before .if3 .left), le-leb _ _ (c .before .if4 .left), lt-leb _ _ (c .if5 .taken)))
+    let b = now (c .before .before .before .before .before .before .before .before .before .before .before .args .part) in
+    let s = c .before .before .before .before .before .before .before .octet2 .result in
+    sym (device-at b (c .before .before .before .before .before .before .before .before .before .if1 .left) (c .before .before .before .before .before .before .wanted-of .ensures) (c .before .before .before .before .before .before .before .before .octet .ensures) (c .before .before .before .before .before .before .before .octet2 .ensures)
+    ∙ rw (c .before .before .before .before .most .given .1, eq-eqb (length b) (6 + s) (omega arith), le-leb 1 s (omega arith), lt-leb _ _ (c .if5 .taken)))
 
 cast-t13 : tie.Need-cast-t13
 cast-t13 c = search needs
 
 returns-5 : tie.Need-returns-5
 returns-5 c =
-    sym (device-at (now (c .before .before .before .before .before .before .before .args .part)) (c .before .before .before .before .before .if1 .left) (c .before .before .wanted-of .ensures) (c .before .before .before .before .octet .ensures) (c .before .before .before .octet2 .ensures) ∙ rw (c .enum-told .given .1))
+    let b = now (c .before .before .before .before .before .before .before .args .part) in
+    sym (device-at b (c .before .before .before .before .before .if1 .left) (c .before .before .wanted-of .ensures) (c .before .before .before .before .octet .ensures) (c .before .before .before .octet2 .ensures) ∙ rw (c .enum-told .given .1))
 
 returns-6 : tie.Need-returns-6
 returns-6 c =
-    sym (device-at (now (c .before .before .before .before .before .before .before .before .args .part)) (c .before .before .before .before .before .before .if1 .left) (c .before .before .before .wanted-of .ensures) (c .before .before .before .before .before .octet .ensures) (c .before .before .before .before .octet2 .ensures) ∙ rw (c .before .enum-told2 .given .1, eq-eqb _ _ (c .if2 .taken)))
+    let b = now (c .before .before .before .before .before .before .before .before .args .part) in
+    let s = c .before .before .before .before .octet2 .result in
+    sym (device-at b (c .before .before .before .before .before .before .if1 .left) (c .before .before .before .wanted-of .ensures) (c .before .before .before .before .before .octet .ensures) (c .before .before .before .before .octet2 .ensures)
+    ∙ rw (c .before .enum-told2 .given .1, eq-eqb (length b) (6 + s) (omega arith)))
 
 returns-7 : tie.Need-returns-7
 returns-7 c =
-    sym (device-at (now (c .before .before .before .before .before .before .before .before .args .part)) (c .before .before .before .before .before .before .if1 .left) (c .before .before .before .wanted-of .ensures) (c .before .before .before .before .before .octet .ensures) (c .before .before .before .before .octet2 .ensures) ∙ rw (c .before .enum-told2 .given .1, ne-eqb _ _ (c .if2 .left)))
+    let b = now (c .before .before .before .before .before .before .before .before .args .part) in
+    let s = c .before .before .before .before .octet2 .result in
+    sym (device-at b (c .before .before .before .before .before .before .if1 .left) (c .before .before .before .wanted-of .ensures) (c .before .before .before .before .before .octet .ensures) (c .before .before .before .before .octet2 .ensures)
+    ∙ rw (c .before .enum-told2 .given .1, ne-eqb (length b) (6 + s) (λ e. omega arith)))
 
 returns-8 : tie.Need-returns-8
 returns-8 c =
-    sym (device-at (now (c .before .before .before .before .before .before .before .before .before .before .before .args .part)) (c .before .before .before .before .before .before .before .before .before .if1 .left) (c .before .before .before .before .before .before .wanted-of .ensures) (c .before .before .before .before .before .before .before .before .octet .ensures) (c .before .before .before .before .before .before .before .octet2 .ensures) ∙ rw (c .before .before .before .before .most .given .1, eq-eqb _ _ (c .before .before .if3 .left), le-leb _ _ (c .before .if4 .left), le-leb _ _ (c .if5 .left)))
+    let b = now (c .before .before .before .before .before .before .before .before .before .before .before .args .part) in
+    let s = c .before .before .before .before .before .before .before .octet2 .result in
+    sym (device-at b (c .before .before .before .before .before .before .before .before .before .if1 .left) (c .before .before .before .before .before .before .wanted-of .ensures) (c .before .before .before .before .before .before .before .before .octet .ensures) (c .before .before .before .before .before .before .before .octet2 .ensures)
+    ∙ rw (c .before .before .before .before .most .given .1, eq-eqb (length b) (6 + s) (omega arith), le-leb 1 s (omega arith), le-leb _ _ (c .if5 .left)))
 
 pub device-spec : {M : Type 1} → statement M
 device-spec =

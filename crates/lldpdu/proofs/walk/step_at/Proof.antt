@@ -28,11 +28,15 @@ returns c = rw (sym (c .before .before .head-at .ensures) ∙ c .enum-told .give
 
 returns-2 : tie.Need-returns-2
 unfolding stepOf
-returns-2 c = rw (sym (c .before .before .before .before .before .head-at .ensures) ∙ c .before .before .before .kind .given .1, c .before .match2 .keys1, eq-eqb _ _ (c .if1 .taken))
+returns-2 c =
+    let len = c .before .before .before .kind .given .0 .1 .0 in
+    rw (sym (c .before .before .before .before .before .head-at .ensures) ∙ c .before .before .before .kind .given .1, c .before .match2 .keys1, eq-eqb len 0 (omega arith))
 
 returns-3 : tie.Need-returns-3
 unfolding stepOf
-returns-3 c = rw (sym (c .before .before .before .before .before .head-at .ensures) ∙ c .before .before .before .kind .given .1, c .before .match2 .keys1, ne-eqb _ _ (c .if1 .left))
+returns-3 c =
+    let len = c .before .before .before .kind .given .0 .1 .0 in
+    rw (sym (c .before .before .before .before .before .head-at .ensures) ∙ c .before .before .before .kind .given .1, c .before .match2 .keys1, ne-eqb len 0 (λ e. omega arith))
 
 returns-4 : tie.Need-returns-4
 unfolding stepOf

@@ -48,10 +48,10 @@ add-end : tie.Need-add-end Inv-loop μ-loop
 add-end c = omega (arith, next-fits (now (c .before .before .before .before .before .before .args .s)) (c .before .before .before .before .loop .at) (sym (c .before .before .before .step-at .ensures) ∙ c .before .kind .given .1))
 
 sub-field-of : tie.Need-sub-field-of Inv-loop μ-loop
-sub-field-of c = omega arith
+sub-field-of c = omega (arith, next-fits (now (c .before .before .before .before .before .before .args .s)) (c .before .before .before .before .loop .at) (sym (c .before .before .before .step-at .ensures) ∙ c .before .kind .given .1))
 
 part-field-of-start : tie.Need-part-field-of-start Inv-loop μ-loop
-part-field-of-start c = omega arith
+part-field-of-start c = omega (arith, next-fits (now (c .before .before .before .before .before .before .args .s)) (c .before .before .before .before .loop .at) (sym (c .before .before .before .step-at .ensures) ∙ c .before .kind .given .1))
 
 part-field-of-end : tie.Need-part-field-of-end Inv-loop μ-loop
 part-field-of-end c = omega (arith, next-fits (now (c .before .before .before .before .before .before .args .s)) (c .before .before .before .before .loop .at) (sym (c .before .before .before .step-at .ensures) ∙ c .before .kind .given .1))

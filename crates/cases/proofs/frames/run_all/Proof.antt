@@ -1,9 +1,9 @@
--- `frames::run_all` meets its contract: the cases are counted, so the loop ends.
+-- `cases::frames::run_all` meets its contract: the cases are counted, so the loop ends.
 -- Nothing else is claimed of a program that prints.
 use Prim.Native.Nat.{_≤_, _-_}
 use borrow.Author.Needs.{needs}
-use Rattle.frames.proofs.run_all.Statement.{statement}
-use Rattle.frames.proofs.run_all.Tie as tie
+use Rattle.cases.proofs.frames.run_all.Statement.{statement}
+use Rattle.cases.proofs.frames.run_all.Tie as tie
 
 abbrev Inv-loop : tie.InvT-loop
 Inv-loop fd case₀ case = case ≤ 100000

@@ -1,10 +1,10 @@
--- `frames::say_octets` meets its contract: the index stays below the length.
+-- `cases::say::say_octets` meets its contract: the index stays below the length.
 -- Nothing else is claimed of a program that prints.
 use Prim.Native.Nat.{_≤_, _-_}
 use borrow.Author.Needs.{needs}
 use lib.ListN.{length}
-use Rattle.frames.proofs.say_octets.Statement.{statement}
-use Rattle.frames.proofs.say_octets.Tie as tie
+use Rattle.cases.proofs.say.say_octets.Statement.{statement}
+use Rattle.cases.proofs.say.say_octets.Tie as tie
 
 abbrev Inv-loop : tie.InvT-loop
 Inv-loop part i₀ i = i ≤ length part

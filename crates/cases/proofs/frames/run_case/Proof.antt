@@ -1,10 +1,10 @@
--- `frames::run_case` meets its contract: a case is read into the front of the array.
+-- `cases::frames::run_case` meets its contract: a case is read into the front of the array.
 -- The front is as long as it was said to be.
 use mathlib.Core.Path.{sym}
 use borrow.Author.Needs.{needs}
 use lib.Seq.{length-take-le}
-use Rattle.frames.proofs.run_case.Statement.{statement}
-use Rattle.frames.proofs.run_case.Tie as tie
+use Rattle.cases.proofs.frames.run_case.Statement.{statement}
+use Rattle.cases.proofs.frames.run_case.Tie as tie
 
 slice-aggregate-read-full : tie.Need-slice-aggregate-read-full
 slice-aggregate-read-full c = search needs
