@@ -6,6 +6,8 @@ ghost use lib.ListN.{drop};
 ghost use Rattle.lldpdu.specs.Walk.{headOf, walk};
 ghost use Rattle.lldpdu.specs.Extent.{chassisOk, portOk, secondsOk, need, portLength, restOf, extentOf, behindPort, behindChassis};
 use crate::walk::Head;
+use crate::walk::NOT_AS_DUE;
+use crate::walk::RUNS_PAST;
 use crate::walk::Step;
 use crate::walk::head_at;
 use crate::walk::step_at;
@@ -95,12 +97,12 @@ fn behind_port(s: &[u8], p: usize) -> Extent
     ensures { λ r. ⌜ r ≡ behindPort (now (s .entry)) ⌝ }
 {
     match head_at(s, 11 + p) {
-        Head::Short => Extent::Refused(5),
+        Head::Short => Extent::Refused(RUNS_PAST),
         Head::Whole { kind, len } => {
             if seconds_fit(kind, len) {
                 rest_extent(s, 15 + p)
             } else {
-                Extent::Refused(4)
+                Extent::Refused(NOT_AS_DUE)
             }
         }
     }
@@ -110,12 +112,12 @@ fn behind_chassis(s: &[u8]) -> Extent
     ensures { λ r. ⌜ r ≡ behindChassis (now (s .entry)) ⌝ }
 {
     match head_at(s, 9) {
-        Head::Short => Extent::Refused(5),
+        Head::Short => Extent::Refused(RUNS_PAST),
         Head::Whole { kind, len } => {
             if port_fits(kind, len, octet(s, 11)) {
                 behind_port(s, len)
             } else {
-                Extent::Refused(4)
+                Extent::Refused(NOT_AS_DUE)
             }
         }
     }
@@ -125,12 +127,12 @@ pub fn extent_of(s: &[u8]) -> Extent
     ensures { λ r. ⌜ r ≡ extentOf (now (s .entry)) ⌝ }
 {
     match head_at(s, 0) {
-        Head::Short => Extent::Refused(5),
+        Head::Short => Extent::Refused(RUNS_PAST),
         Head::Whole { kind, len } => {
             if chassis_fits(kind, len, octet(s, 2)) {
                 behind_chassis(s)
             } else {
-                Extent::Refused(4)
+                Extent::Refused(NOT_AS_DUE)
             }
         }
     }

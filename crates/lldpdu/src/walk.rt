@@ -6,6 +6,14 @@ ghost use Rattle.lldpdu.specs.Walk.{headOf, stepOf};
 use octets::kind_of;
 use octets::len_of;
 
+// Refusals: one of the first three TLVs is not as it should be (R4), a TLV runs past the end (R5), a later TLV may not stand
+// where it does (R6).
+pub(crate) const NOT_AS_DUE: u8 = 4;
+
+pub(crate) const RUNS_PAST: u8 = 5;
+
+pub(crate) const OUT_OF_PLACE: u8 = 6;
+
 // The header at a place, where header and information string are whole.
 pub enum Head {
     Short,
@@ -43,7 +51,7 @@ pub fn step_at(s: &[u8], at: usize) -> Step
     ensures { λ r. ⌜ r ≡ stepOf (headOf (drop at (now (s .entry)))) at ⌝ }
 {
     match head_at(s, at) {
-        Head::Short => Step::Refused(5),
+        Head::Short => Step::Refused(RUNS_PAST),
         Head::Whole { kind, len } => {
             let start = at + 2;
             match kind {
@@ -51,13 +59,13 @@ pub fn step_at(s: &[u8], at: usize) -> Step
                     if len == 0 {
                         Step::End(start)
                     } else {
-                        Step::Refused(6)
+                        Step::Refused(OUT_OF_PLACE)
                     }
                 }
-                1..=3 => Step::Refused(6),
+                1..=3 => Step::Refused(OUT_OF_PLACE),
                 127 => {
                     if len < 4 {
-                        Step::Refused(6)
+                        Step::Refused(OUT_OF_PLACE)
                     } else {
                         Step::Next { kind, start, len }
                     }

@@ -13,14 +13,21 @@ use octets::octet;
 use octets::same_six;
 use octets::six;
 
+// The fewest and the most octets of a frame (F1), and the refusal of one that does not fit (R3).
+const SHORTEST: usize = 14;
+
+const LONGEST: usize = 1514;
+
+const NO_FRAME: u8 = 3;
+
 // Refusal 3 is given exactly where this is false (F1, F2, F3).
 fn frame_fits(f: &[u8]) -> bool
     ensures { λ r. ⌜ r ≡ frameOk (now (f .entry)) ⌝ }
 {
-    if f.len() < 14 {
+    if f.len() < SHORTEST {
         return false;
     }
-    if f.len() > 1514 {
+    if f.len() > LONGEST {
         return false;
     }
     if octet(f, 12) != 0x88 {
@@ -41,7 +48,7 @@ pub fn outline_frame(f: &[u8]) -> Outline
     if frame_fits(f) {
         outline_lldpdu(&f[14..])
     } else {
-        refused_outline(3)
+        refused_outline(NO_FRAME)
     }
 }
 
@@ -51,6 +58,6 @@ pub fn read_frame(f: &[u8]) -> Reading
     if frame_fits(f) {
         read_lldpdu(&f[14..])
     } else {
-        refused_reading(3)
+        refused_reading(NO_FRAME)
     }
 }
