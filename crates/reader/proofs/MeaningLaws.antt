@@ -31,6 +31,8 @@ use Rattle.lldpdu.specs.declared.extent.Extent.the-variants.{Refused, Octets}
 use Rattle.reader.specs.declared.found.Mark.{Mark}
 use Rattle.reader.specs.declared.found.Found.{Found}
 use Rattle.reader.specs.declared.reading.Description.{Description}
+use Rattle.reader.specs.declared.reading.Link.{Link}
+use Rattle.reader.specs.declared.reading.Link.the-variants as link-is
 use Rattle.reader.specs.declared.reading.Reading.{Reading}
 
 -- The verdict
@@ -173,6 +175,20 @@ link-same s u m (c ∷ cs) l i k =
     λ v x. link-table v m (w .0) (w .1 .0) (w .1 .1 .0) (met x) (x .inside) (rw (x .text) (w .1 .1 .1)) in
     table u k ∙ sym (table s i)
 
+-- the parts of a link information lie in a text of n octets
+abbrev pub LinkFits : ℕ → Link → Type 0
+LinkFits n link-is.Absent = Unit {0}
+LinkFits n (link-is.Table i p a) = (i .start + i .len ≤ n) × ((p .start + p .len ≤ n) × (a .start + a .len ≤ n))
+
+link-fits : (s : List ℕ) (m : Mark) (cs : List (List ℕ)) → AllLinked cs → Means s m cs → LinkFits (length s) (linkAt s m)
+unfolding linkAt
+link-fits s m [] l i = rw (eq-eqb (m .times) 0 (i .count)) tt
+link-fits s m (c ∷ cs) l i =
+    let w = l .0 in
+    let here : LinkContent (textAt s m) (w .0) (w .1 .0) (w .1 .1 .0) = rw (i .text) (w .1 .1 .1) in
+    let size = link-size s m (w .0) (w .1 .0) (w .1 .1 .0) (met i) (i .inside) here in
+    rw (link-table s m (w .0) (w .1 .0) (w .1 .1 .0) (met i) (i .inside) here) (omega (arith, i .inside), (omega (arith, i .inside), omega (arith, i .inside)))
+
 list-means : (s : List ℕ) (m : Mark) (cs : List (List ℕ)) → Means s m cs → listMeant s (listAt m) ≡ firstList cs
 unfolding listAt
 list-means s m [] i = rw (eq-eqb (m .times) 0 (i .count))
@@ -185,6 +201,10 @@ rest-in s = walk-in s (drop (15 + portLength s) s) 0 (15 + portLength s) refl
 
 pub marks-inside : (s : List ℕ) (topic : ℕ) → topic < topics → markOf topic (foundIn s) .start + markOf topic (foundIn s) .len ≤ length s
 marks-inside s topic h = topic-means s topic (restOf s .tlvs) h (rest-in s) .inside
+
+pub reading-link-fits : (s : List ℕ) → LinkFits (length s) (linkAt s (markOf link (foundIn s)))
+reading-link-fits s =
+    link-fits s (markOf link (foundIn s)) (contents link (tlvsIn s)) (contents-linked (tlvsIn s)) (topic-means s link (restOf s .tlvs) (omega arith) (rest-in s))
 
 said-means : (s : List ℕ) → saidBy s (descriptionAt s (portLength s) (foundIn s)) ≡ saidIn s (tlvsIn s)
 said-means s =
