@@ -93,7 +93,7 @@ fn identity_text(outline: &Outline) -> String {
     )
 }
 
-fn reading_text(reading: &Reading) -> String {
+pub(crate) fn reading_text(reading: &Reading) -> String {
     let link = match &reading.link {
         Some(link) => format!(
             "{}/{}/{}",
@@ -130,7 +130,7 @@ fn naming_text(naming: &Option<Naming>) -> String {
 }
 
 /// Two capital hex digits for each octet; a single dot for no octets, so that no field is empty.
-fn hex(octets: &[u8]) -> String {
+pub(crate) fn hex(octets: &[u8]) -> String {
     if octets.is_empty() {
         return ".".to_string();
     }

@@ -2,16 +2,18 @@
 //! Both are made by the library; nothing is decided here.
 
 use std::env;
+use std::ffi::OsStr;
 use std::fs;
-use std::io;
 use std::path::Path;
 use std::process::ExitCode;
 
-use twin::frames;
+use twin::{announcements, frames};
 
 const USAGE: &str = "\
-usage: twin frames DIR   write the cases to DIR/frames and the expected text to DIR/stdout
-       twin help         show this text";
+usage: twin frames DIR          write the reader's cases to DIR/frames
+       twin announcements DIR   write the writer's cases to DIR/announcements
+       twin help                show this text
+The text expected for the cases goes to DIR/stdout.";
 
 fn main() -> ExitCode {
     let arguments: Vec<_> = env::args_os().skip(1).collect();
@@ -21,13 +23,21 @@ fn main() -> ExitCode {
             println!("{USAGE}");
             ExitCode::SUCCESS
         }
-        [Some("frames"), _] => match write_frames(Path::new(&arguments[1])) {
-            Ok(()) => ExitCode::SUCCESS,
-            Err(error) => {
-                eprintln!("twin: {error}");
-                ExitCode::FAILURE
-            }
-        },
+        [Some("frames"), _] => {
+            let cases = frames::cases();
+            let expected = frames::expected(&cases);
+            write_files(&arguments[1], "frames", &frames::case_file(&cases), &expected)
+        }
+        [Some("announcements"), _] => {
+            let cases = announcements::cases();
+            let expected = announcements::expected(&cases);
+            write_files(
+                &arguments[1],
+                "announcements",
+                &announcements::case_file(&cases),
+                &expected,
+            )
+        }
         _ => {
             eprintln!("{USAGE}");
             ExitCode::from(2)
@@ -35,9 +45,16 @@ fn main() -> ExitCode {
     }
 }
 
-fn write_frames(directory: &Path) -> io::Result<()> {
-    let cases = frames::cases();
-    fs::create_dir_all(directory)?;
-    fs::write(directory.join("frames"), frames::case_file(&cases))?;
-    fs::write(directory.join("stdout"), frames::expected(&cases))
+fn write_files(directory: &OsStr, name: &str, case_file: &[u8], expected: &str) -> ExitCode {
+    let directory = Path::new(directory);
+    let written = fs::create_dir_all(directory)
+        .and_then(|()| fs::write(directory.join(name), case_file))
+        .and_then(|()| fs::write(directory.join("stdout"), expected));
+    match written {
+        Ok(()) => ExitCode::SUCCESS,
+        Err(error) => {
+            eprintln!("twin: {error}");
+            ExitCode::FAILURE
+        }
+    }
 }

@@ -3,7 +3,7 @@
 
 use std::ops::RangeInclusive;
 
-/// A refusal number: 3 to 6 for a frame, 4 to 6 for a bare LLDPDU (A1).
+/// A refusal number: 3 to 6 for a frame, 4 to 6 for a bare LLDPDU (A1). The writer's are 9 and 10.
 pub type Refusal = u8;
 
 pub type Address = [u8; 6];

@@ -82,7 +82,7 @@ fn run_octets(fd: i32, case: usize, head: [u8; 9], text: &mut [u8]) -> bool {
 }
 
 // One case; false where the file is over.
-fn run_case(fd: i32, case: usize) -> bool {
+pub(crate) fn run_case(fd: i32, case: usize) -> bool {
     let mut head = [0u8; 9];
     let got = io::read_full(fd, &mut head);
     if got < 9 {
@@ -94,25 +94,4 @@ fn run_case(fd: i32, case: usize) -> bool {
     }
     let mut text = [0u8; MOST];
     run_octets(fd, case, head, &mut text[..length])
-}
-
-// A proved loop has to end, so the cases are counted; no file has so many.
-fn run_all(fd: i32) {
-    let mut case = 1;
-    while case < 100000 {
-        if !run_case(fd, case) {
-            return;
-        }
-        case += 1;
-    }
-}
-
-pub(crate) fn run_frames() {
-    let fd = os::open_read(b"frames");
-    if fd < 0 {
-        os::fail(b"frames");
-        return;
-    }
-    run_all(fd);
-    libc::close(fd);
 }

@@ -1,12 +1,12 @@
-use Prim.Native.Nat.{_+_}
-use native.Mathlib.Omega.{arith}
-use lib.ListN.{length}
 -- `fields::device` meets its contract: each return by what the ID wants and the tests that led to it.
 -- The law is device-at of DeviceLaws.
+use Prim.Native.Nat.{_+_}
 use mathlib.Core.Path.{sym, _∙_}
+use native.Mathlib.Omega.{arith}
 use denote.Ref.{now}
 use borrow.Author.Tests.{eq-eqb, ne-eqb, le-leb, lt-leb, lt-ltb}
 use borrow.Author.Needs.{needs}
+use lib.ListN.{length}
 use Rattle.fields.specs.Device.{deviceOf}
 use Rattle.fields.proofs.DeviceLaws.{device-at}
 use Rattle.fields.proofs.device.Statement.{statement}

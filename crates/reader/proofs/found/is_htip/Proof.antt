@@ -1,12 +1,12 @@
-use native.Mathlib.Omega.{arith}
-use Rattle.fields.specs.Field.{category}
-use Rattle.reader.specs.Found.{markOf, htipIn}
 -- `reader::found::is_htip` meets its contract: five tests, front to back.
 -- Each return cites the tests that led to it.
 use mathlib.Core.Path.{sym}
+use native.Mathlib.Omega.{arith}
 use borrow.Author.Tests.{eq-eqb, ne-eqb, le-leb, lt-leb}
 use borrow.Author.Needs.{needs}
 use Rattle.tally.proofs.TestsLaws.{both-end}
+use Rattle.fields.specs.Field.{category}
+use Rattle.reader.specs.Found.{markOf, htipIn}
 use Rattle.reader.proofs.found.is_htip.Statement.{statement}
 use Rattle.reader.proofs.found.is_htip.Tie as tie
 

@@ -1,15 +1,15 @@
--- `cases::frames::run_all` meets its contract: the cases are counted, so the loop ends.
+-- `cases::run_all` meets its contract: the cases are counted, so the loop ends.
 -- Nothing else is claimed of a program that prints.
 use Prim.Native.Nat.{_≤_, _-_}
 use borrow.Author.Needs.{needs}
-use Rattle.cases.proofs.frames.run_all.Statement.{statement}
-use Rattle.cases.proofs.frames.run_all.Tie as tie
+use Rattle.cases.proofs.run_all.Statement.{statement}
+use Rattle.cases.proofs.run_all.Tie as tie
 
 abbrev Inv-loop : tie.InvT-loop
-Inv-loop fd case₀ case = case ≤ 100000
+Inv-loop file fd case₀ case = case ≤ 100000
 
 abbrev μ-loop : tie.MeasureT-loop
-μ-loop fd case₀ case = 100000 - case
+μ-loop file fd case₀ case = 100000 - case
 
 loop-holds : tie.Need-loop-holds Inv-loop μ-loop
 loop-holds c = search needs

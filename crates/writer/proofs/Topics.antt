@@ -1,0 +1,256 @@
+-- What the written fields say: each TLV that the writer makes of a topic is read as that topic with the same content.
+-- `Speaks ts n cs`: the TLVs ts are passed by the walk, are well formed, and have the contents cs of topic n and none of another.
+use Prim.Native.Nat.{ℕ, _+_, _*_, _/_, _%_, _≤_}
+use mathlib.Core.Path.{_≡_, refl, sym, ap, _∙_}
+use mathlib.Core.List.{List, [], _∷_, _++_, append-assoc}
+use mathlib.Core.Bool.{Bool, true, false}
+use mathlib.Core.Option.{Option, none, some}
+use native.Mathlib.Omega.{arith}
+use borrow.Author.Tests.{eq-eqb, le-leb, le-ltb, leb-true, eqb-true}
+use lib.ListN.{length, drop, getD, length-append}
+use lib.Seq.{drop-at, take-at, getD-at}
+use lib.Dec.{leb, eqb}
+use Rattle.tally.specs.Tests.{pick}
+use Rattle.tally.proofs.TestsLaws.{both-true, Held, held}
+use Rattle.fields.specs.Text.{textOk}
+use Rattle.fields.specs.Device.{wantedOf, deviceOf}
+use Rattle.fields.specs.Link.{linkOk, listOk}
+use Rattle.fields.specs.Field.{link, addressList, portDescription, descriptionOf, linkOf, listOf, isTtc, ttcOf, fieldOf}
+use Rattle.fields.specs.declared.Wanted.the-variants.{Text}
+use Rattle.fields.specs.declared.Field.{Field}
+use Rattle.fields.specs.declared.Field.the-variants.{Skipped, Malformed, Says}
+use Rattle.fields.proofs.LinkLaws.{link-counts}
+use Rattle.lldpdu.specs.Walk.{Tlv, stepOf}
+use Rattle.reader.specs.Meaning.{onField, contents, formed, wellFormed, LinkInfo, first, firstLink, firstList}
+use Rattle.writer.specs.Encode.{wordsTlv, ttcTlv, deviceTlv, linkContent, linkTlv, listTlv, unlessEmpty, ifLinked, ifListed}
+use Rattle.writer.specs.Rules.{wordsSound, tableSound, linkSound, listedSound, listSound}
+use Rattle.writer.proofs.EncodeLaws.{link-length}
+use Rattle.writer.proofs.ReadBack.{Passed, AllPassed, none-passed, more-passed}
+
+-- Lists of TLVs
+
+pub contents-append : (topic : ℕ) (a b : List Tlv) → contents topic (a ++ b) ≡ contents topic a ++ contents topic b
+unfolding contents
+contents-append topic [] b = refl
+contents-append topic (t ∷ a) b = go (fieldOf (t .kind) (t .body)) (contents-append topic a b)
+  where
+    go : (x : Field) → contents topic (a ++ b) ≡ contents topic a ++ contents topic b
+        → onField x topic (t .body) (contents topic (a ++ b)) ≡ onField x topic (t .body) (contents topic a) ++ contents topic b
+    go Skipped ih = ih
+    go Malformed ih = ih
+    go (Says n skip) ih = met (eqb topic n)
+      where
+        met : (u : Bool) → pick u (drop skip (t .body) ∷ contents topic (a ++ b)) (contents topic (a ++ b))
+            ≡ pick u (drop skip (t .body) ∷ contents topic a) (contents topic a) ++ contents topic b
+        met true = ap (λ (l : List (List ℕ)). drop skip (t .body) ∷ l) ih
+        met false = ih
+
+pub formed-append : (a b : List Tlv) → wellFormed a ≡ true → wellFormed b ≡ true → wellFormed (a ++ b) ≡ true
+unfolding wellFormed
+formed-append [] b p q = q
+formed-append (t ∷ a) b p q =
+    let w = both-true (formed (fieldOf (t .kind) (t .body))) (wellFormed a) p in
+    rw (w .0) (formed-append a b (w .1) q)
+
+pub record Speaks (ts : List Tlv) (n : ℕ) (cs : List (List ℕ)) : Type 0 where
+  pub contents-are : (topic : ℕ) → contents topic ts ≡ pick (eqb topic n) cs []
+  pub well-formed : wellFormed ts ≡ true
+  pub passed : AllPassed ts
+
+pub silent : (n : ℕ) → Speaks [] n []
+unfolding contents wellFormed
+silent n = record { contents-are = λ topic. go (eqb topic n); well-formed = refl; passed = none-passed }
+  where
+    go : (b : Bool) → _≡_ {A = List (List ℕ)} [] (pick b [] [])
+    go true = refl
+    go false = refl
+
+-- one TLV that is read as topic n with content c
+pub record About (t : Tlv) (n : ℕ) (c : List ℕ) : Type 0 where
+  pub skip : ℕ
+  pub says : fieldOf (t .kind) (t .body) ≡ Says n skip
+  pub content : drop skip (t .body) ≡ c
+  pub goes : Passed t
+
+pub speaks-one : {t : Tlv} {n : ℕ} {c : List ℕ} → About t n c → Speaks (t ∷ []) n (c ∷ [])
+unfolding contents wellFormed
+speaks-one {t} {n} {c} a =
+    record {
+      contents-are = λ topic. rw (a .says, a .content);
+      well-formed = rw (a .says);
+      passed = more-passed (a .goes) none-passed;
+    }
+
+abbrev pub unlessNone : List ℕ → List (List ℕ)
+unlessNone [] = []
+unlessNone (x ∷ l) = (x ∷ l) ∷ []
+
+pub speaks-string : (f : List ℕ → Tlv) (n : ℕ) (l : List ℕ) → (1 ≤ length l → About (f l) n l) → Speaks (unlessEmpty f l) n (unlessNone l)
+speaks-string f n [] a = silent n
+speaks-string f n (x ∷ l) a = speaks-one (a (omega arith))
+
+-- Port description (T10)
+
+pub words-about : (b : List ℕ) → wordsSound b ≡ true → About (wordsTlv b) portDescription b
+unfolding fieldOf descriptionOf stepOf
+words-about b e =
+    let w = both-true (leb (length b) 255) (textOk b) e in
+    let h = leb-true (length b) 255 (w .0) in
+    record {
+      skip = 0;
+      says = rw (w .0, w .1);
+      content = refl;
+      goes = record { short = record { kind = omega arith; body = omega arith }; passed = λ at. refl };
+    }
+
+-- TTC fields (T1)
+
+ttc-passed : (subtype : ℕ) (c : List ℕ) → length c ≤ 507 → Passed (ttcTlv subtype c)
+unfolding stepOf
+ttc-passed subtype c h =
+    record {
+      short = record { kind = omega arith; body = omega arith };
+      passed = λ at. rw (le-ltb (length (ttcTlv subtype c .body)) 4 (omega arith));
+    }
+
+-- Device information (T2, T3)
+
+pub device-about : (id most : ℕ) (x : List ℕ) → wantedOf id ≡ Text most → most ≤ 255 → length x ≤ most → 1 ≤ length x → About (deviceTlv id x) id x
+unfolding fieldOf isTtc ttcOf deviceOf
+device-about id most x w m h p =
+    record {
+      skip = 6;
+      says =
+          rw (
+            le-ltb (length (deviceTlv id x .body)) 5 (omega arith),
+            w,
+            eq-eqb (length (deviceTlv id x .body)) (6 + length x) (omega arith),
+            le-leb 1 (length x) p,
+            le-leb (length x) most h,
+          );
+      content = refl;
+      goes = ttc-passed 1 (id ∷ length x ∷ x) (omega arith);
+    }
+
+-- Address list (T8)
+
+pub list-about : (a : List ℕ) → listedSound (length a) ≡ true → About (listTlv a) addressList a
+unfolding fieldOf isTtc ttcOf listOf listOk
+list-about a e =
+    let w = both-true (eqb (length a % 6) 0) (leb (5 + length a) 511) e in
+    let z : length a % 6 ≡ 0 = eqb-true (length a % 6) 0 (w .0) in
+    let h : 5 + length a ≤ 511 = leb-true (5 + length a) 511 (w .1) in
+    record {
+      skip = 5;
+      says = rw (eq-eqb (length (listTlv a .body)) (5 + 6 * (length a / 6)) (omega arith));
+      content = refl;
+      goes = ttc-passed 3 (length a / 6 ∷ a) (omega arith);
+    }
+
+-- Link information (T7)
+
+module _ (l : LinkInfo) (e : tableSound (length (l .interface)) (length (l .port)) (length (l .addresses)) ≡ true) where
+  abbrev n : ℕ
+  n = length (l .interface)
+
+  abbrev m : ℕ
+  m = length (l .port)
+
+  abbrev k : ℕ
+  k = length (l .addresses)
+
+  abbrev tail : List ℕ
+  tail = k / 6 ∷ l .addresses
+
+  abbrev content : List ℕ
+  content = linkContent l
+
+  rules-hold : Held (leb 1 n ∷ leb n 4 ∷ leb 1 m ∷ leb m 4 ∷ eqb (k % 6) 0 ∷ leb (7 + n + m + k) 511 ∷ [])
+  rules-hold = held (leb 1 n ∷ leb n 4 ∷ leb 1 m ∷ leb m 4 ∷ eqb (k % 6) 0 ∷ leb (7 + n + m + k) 511 ∷ []) e
+
+  sixes : k % 6 ≡ 0
+  sixes = eqb-true (k % 6) 0 (rules-hold .1 .1 .1 .1 .0)
+
+  -- the octets in front of a count, with f in front of the content
+  numbered : (f : List ℕ) → getD (f ++ content) (length f + (1 + n)) 0 ≡ m
+  numbered f =
+      ap (λ (x : List ℕ). getD x (length f + (1 + n)) 0) (sym (append-assoc f (n ∷ l .interface) (m ∷ (l .port ++ tail))))
+      ∙ getD-at (f ++ (n ∷ l .interface)) m (l .port ++ tail) 0 (length f + (1 + n)) (length-append f (n ∷ l .interface) ∙ omega arith)
+
+  split : content ≡ (n ∷ (l .interface ++ (m ∷ l .port))) ++ tail
+  split = ap (λ (x : List ℕ). n ∷ x) (sym (append-assoc (l .interface) (m ∷ l .port) tail))
+
+  front-long : length (n ∷ (l .interface ++ (m ∷ l .port))) ≡ 2 + n + m
+  front-long = omega (arith, length-append (l .interface) (m ∷ l .port))
+
+  counted : (f : List ℕ) → getD (f ++ content) (length f + (2 + n + m)) 0 ≡ k / 6
+  counted f =
+      let front = n ∷ (l .interface ++ (m ∷ l .port)) in
+      ap (λ (x : List ℕ). getD (f ++ x) (length f + (2 + n + m)) 0) split
+      ∙ ap (λ (x : List ℕ). getD x (length f + (2 + n + m)) 0) (sym (append-assoc f front tail))
+      ∙ getD-at (f ++ front) (k / 6) (l .addresses) 0 (length f + (2 + n + m)) (omega (arith, length-append f front, front-long))
+
+  table-formed : linkOk (linkTlv l .body) ≡ true
+  table-formed =
+      let b = linkTlv l .body in
+      let h = rules-hold in
+      let z = sixes in
+      let five : 4 + (1 + n) ≡ 5 + n = omega arith in
+      let six : 4 + (2 + n + m) ≡ 6 + n + m = omega arith in
+      let q : m ≡ getD b (5 + n) 0 = sym (numbered (0xE0 ∷ 0x27 ∷ 0x1A ∷ 2 ∷ [])) ∙ ap (λ (i : ℕ). getD b i 0) five in
+      let r : k / 6 ≡ getD b (6 + n + m) 0 = sym (counted (0xE0 ∷ 0x27 ∷ 0x1A ∷ 2 ∷ [])) ∙ ap (λ (i : ℕ). getD b i 0) six in
+      link-counts b refl q r
+      ∙ rw (h .0, h .1 .0, h .1 .1 .0, h .1 .1 .1 .0, eq-eqb (length b) (7 + n + m + 6 * (k / 6)) (omega (arith, link-length l)))
+
+  pub link-about : About (linkTlv l) link content
+  unfolding fieldOf isTtc ttcOf linkOf
+  link-about =
+      let h : 7 + n + m + k ≤ 511 = leb-true (7 + n + m + k) 511 (rules-hold .1 .1 .1 .1 .1 .0) in
+      record { skip = 4; says = rw table-formed; content = refl; goes = ttc-passed 2 content (omega (arith, link-length l)) }
+
+  port-from : drop (2 + n) content ≡ l .port ++ tail
+  port-from =
+      ap (λ (x : List ℕ). drop (2 + n) (n ∷ x)) (sym (append-assoc (l .interface) (m ∷ []) (l .port ++ tail)))
+      ∙ drop-at (n ∷ (l .interface ++ (m ∷ []))) (l .port ++ tail) (2 + n) (omega (arith, length-append (l .interface) (m ∷ [])))
+
+  rest-from : drop (3 + n + m) content ≡ l .addresses
+  rest-from =
+      ap (drop (3 + n + m)) (split ∙ sym (append-assoc (n ∷ (l .interface ++ (m ∷ l .port))) (k / 6 ∷ []) (l .addresses)))
+      ∙ drop-at ((n ∷ (l .interface ++ (m ∷ l .port))) ++ (k / 6 ∷ [])) (l .addresses) (3 + n + m)
+      (omega (arith, length-append (n ∷ (l .interface ++ (m ∷ l .port))) (k / 6 ∷ []), front-long))
+
+  pub link-back : firstLink (content ∷ []) ≡ some l
+  link-back =
+      let e : 1 + n ≡ 0 + (1 + n) = omega arith in
+      let second : getD content (1 + n) 0 ≡ m = ap (λ (i : ℕ). getD content i 0) e ∙ numbered [] in
+      rw (second, port-from, rest-from, take-at (l .interface) (m ∷ (l .port ++ tail)) n refl, take-at (l .port) tail m refl)
+
+-- What the optional ones speak of
+
+abbrev pub linkContents : Option LinkInfo → List (List ℕ)
+linkContents none = []
+linkContents (some l) = linkContent l ∷ []
+
+pub speaks-link : (o : Option LinkInfo) → linkSound o ≡ true → Speaks (ifLinked o) link (linkContents o)
+speaks-link none e = silent link
+speaks-link (some l) e = speaks-one (link-about l e)
+
+pub first-link : (o : Option LinkInfo) → linkSound o ≡ true → firstLink (linkContents o) ≡ o
+first-link none e = refl
+first-link (some l) e = link-back l e
+
+abbrev pub listContents : Option (List ℕ) → List (List ℕ)
+listContents none = []
+listContents (some a) = a ∷ []
+
+pub speaks-list : (o : Option (List ℕ)) → listSound o ≡ true → Speaks (ifListed o) addressList (listContents o)
+speaks-list none e = silent addressList
+speaks-list (some a) e = speaks-one (list-about a e)
+
+pub first-list : (o : Option (List ℕ)) → firstList (listContents o) ≡ o
+first-list none = refl
+first-list (some a) = refl
+
+pub first-string : (l : List ℕ) → first (unlessNone l) ≡ l
+first-string [] = refl
+first-string (x ∷ l) = refl

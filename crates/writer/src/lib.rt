@@ -1,0 +1,40 @@
+// The agent's writer: from a description and the text that it points into, the octets of its announcement.
+// A description that breaks a rule, or an output that is too short, gets its number and not one octet is written.
+ghost use Rattle.writer.specs.Write.{Writes};
+
+mod inside;
+mod put;
+mod size;
+mod sound;
+
+use inside::all_inside;
+use put::put_lldpdu;
+use reader::Description;
+use size::size_of;
+use sound::is_sound;
+
+pub enum Written {
+    Octets(usize),
+    Refused(u8),
+}
+
+// Writes the LLDPDU of a description to the front of out (W1, W4); 9 goes before 10 (R11).
+pub fn write(d: Description, text: &[u8], out: &mut [u8]) -> Written
+    ensures { λ r. ⌜ Writes (now (text .entry)) d (now (out .entry)) r (now (out .exit)) ⌝ }
+{
+    if !all_inside(text.len(), d) {
+        return Written::Refused(9);
+    }
+    if !is_sound(text, d) {
+        return Written::Refused(9);
+    }
+    let size = size_of(text, d);
+    if size > 1500 {
+        return Written::Refused(9);
+    }
+    if size > out.len() {
+        return Written::Refused(10);
+    }
+    put_lldpdu(text, d, out);
+    Written::Octets(size)
+}

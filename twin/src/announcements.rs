@@ -1,0 +1,224 @@
+//! The announcements: descriptions on both sides of every rule of the writer, then random ones.
+//! The case file and the text that is expected for it are made here.
+
+mod maker;
+mod places;
+mod plan;
+mod random;
+mod rules;
+
+use crate::frames::{hex, reading_text};
+use crate::reader::{read_lldpdu, Refusal};
+use crate::writer::{write, Description, Part};
+use maker::Maker;
+use plan::Plan;
+
+/// The octet that fills the output buffer before the call.
+const UNTOUCHED: u8 = 0xEE;
+
+#[derive(Clone, Debug, PartialEq, Eq)]
+pub struct Case {
+    pub description: Description,
+    pub text: Vec<u8>,
+    pub room: usize,
+    /// What the case was made for: the length written, or the refusal. It is not in the file; the
+    /// tests hold the writer against it.
+    pub meant: Result<usize, Refusal>,
+}
+
+/// All cases, always the same ones.
+pub fn cases() -> Vec<Case> {
+    let mut maker = Maker::new();
+    maker.rules();
+    maker.places();
+    maker.random();
+    maker.cases
+}
+
+/// The case file: the description, the room, the text. Numbers have their high octet first.
+pub fn case_file(cases: &[Case]) -> Vec<u8> {
+    let mut file = Vec::new();
+    for Case { description, text, room, .. } in cases {
+        file.extend(description.chassis);
+        file.push(description.port_subtype);
+        file.extend(description.seconds.to_be_bytes());
+        for part in [
+            description.port,
+            description.words,
+            description.category,
+            description.manufacturer,
+            description.model_name,
+            description.model_number,
+        ] {
+            file.extend(part_octets(part));
+        }
+        let link = description.link.as_ref();
+        file.extend(flagged(link.map(|link| [link.interface, link.number, link.addresses])));
+        file.extend(flagged(description.list.map(|addresses| [addresses])));
+        file.extend(u16::try_from(*room).expect("a room has at most 1,600 octets").to_be_bytes());
+        let length = u16::try_from(text.len()).expect("a text has at most 2,000 octets");
+        file.extend(length.to_be_bytes());
+        file.extend(text);
+    }
+    file
+}
+
+fn part_octets(part: Part) -> [u8; 16] {
+    ((u128::from(part.start) << 64) | u128::from(part.len)).to_be_bytes()
+}
+
+/// One octet that tells whether the parts are present, then the parts, or as many zeros.
+fn flagged<const N: usize>(parts: Option<[Part; N]>) -> Vec<u8> {
+    match parts {
+        Some(parts) => [vec![1], parts.map(part_octets).concat()].concat(),
+        None => vec![0; 1 + 16 * N],
+    }
+}
+
+/// The expected text: two lines for each case, numbered from 1, and two more where it wrote.
+pub fn expected(cases: &[Case]) -> String {
+    let mut text = String::new();
+    for (case, number) in cases.iter().zip(1..) {
+        let answer = write(&case.description, &case.text, case.room);
+        // What is past the written octets stays as it was (W4); after a refusal all does (R12).
+        let mut output = vec![UNTOUCHED; case.room];
+        match &answer {
+            Ok(lldpdu) => {
+                output[..lldpdu.len()].copy_from_slice(lldpdu);
+                text += &format!("{number} wrote {}\n", lldpdu.len());
+            }
+            Err(refusal) => text += &format!("{number} refused {refusal}\n"),
+        }
+        // The octets at the end that have the filling value are counted and not spelled out.
+        let touched =
+            output.iter().rposition(|octet| *octet != UNTOUCHED).map_or(0, |last| last + 1);
+        let rest = output.len() - touched;
+        text += &format!("{number} output {} rest {rest}\n", hex(&output[..touched]));
+        if let Ok(lldpdu) = answer {
+            let reading = read_lldpdu(&lldpdu).expect("what is written is valid (W6)");
+            let again = written_again(&Plan::read_back(&reading));
+            text += &format!("{number} reading {}\n", reading_text(&reading));
+            text += &format!("{number} again {} {}\n", again.len(), hex(&again));
+        }
+    }
+    text
+}
+
+/// What was read back is written once more, with all the room there can be need of (W6).
+fn written_again(read: &Plan) -> Vec<u8> {
+    let (description, text) = read.in_order();
+    write(&description, &text, 1500).expect("what was read back can be written (W6)")
+}
+
+#[cfg(test)]
+mod tests {
+    use super::*;
+    use crate::frames::blocks::{headed, EVERYONE, GROUP, LLDP};
+    use crate::reader::{read_frame, Reading};
+
+    /// The cases that are written, with the octets and their reading.
+    fn written() -> Vec<(Case, Vec<u8>, Reading)> {
+        let written = |case: Case| {
+            let lldpdu = write(&case.description, &case.text, case.room).ok()?;
+            let reading = read_lldpdu(&lldpdu).expect("what is written is valid");
+            Some((case, lldpdu, reading))
+        };
+        cases().into_iter().filter_map(written).collect()
+    }
+
+    #[test]
+    fn the_cases_are_the_same_each_time() {
+        assert!(cases() == cases());
+    }
+
+    #[test]
+    fn the_files_have_the_promised_sizes() {
+        let cases = cases();
+        let file = case_file(&cases).len();
+        let text = expected(&cases).len();
+        println!("{} cases, {file} octets of cases, {text} octets of text", cases.len());
+        assert!((700..=900).contains(&cases.len()));
+        assert!(cases.iter().all(|case| case.text.len() <= 2000 && case.room <= 1600));
+        assert!(file <= 400_000);
+        assert!(text <= 1_500_000);
+    }
+
+    /// A record has 175 octets besides its text, whatever is absent.
+    #[test]
+    fn the_case_file_has_records_of_known_length() {
+        let cases = cases();
+        let texts: usize = cases.iter().map(|case| case.text.len()).sum();
+        assert_eq!(case_file(&cases).len(), 175 * cases.len() + texts);
+    }
+
+    /// A rule that hardly ever decides would hardly be compared.
+    #[test]
+    fn no_answer_is_rare() {
+        let text = expected(&cases());
+        let lines = |ending: &str| text.lines().filter(|line| line.ends_with(ending)).count();
+        let wrote = text.lines().filter(|line| line.contains(" wrote ")).count();
+        let counts = [wrote, lines(" refused 9"), lines(" refused 10")];
+        println!("wrote, 9, 10: {counts:?}");
+        assert!(counts[0] >= 300 && counts[1] >= 150 && counts[2] >= 60);
+        assert_eq!(counts.iter().sum::<usize>(), cases().len());
+    }
+
+    #[test]
+    fn each_case_ends_as_it_was_meant_to() {
+        for (case, number) in cases().iter().zip(1..) {
+            let answer = write(&case.description, &case.text, case.room);
+            assert_eq!(answer.map(|lldpdu| lldpdu.len()), case.meant, "case {number}: {case:?}");
+        }
+    }
+
+    /// Strings, and tables that are absent, empty or full, come back as they were (W6, A3).
+    #[test]
+    fn what_is_written_reads_back_as_the_description() {
+        for (case, lldpdu, reading) in written() {
+            let octets = |part: &Part| {
+                let start = part.start as usize;
+                Some(case.text[start..start + part.len as usize].to_vec())
+            };
+            assert_eq!(Some(Plan::read_back(&reading)), case.description.with(octets));
+            assert_eq!(reading.outline.length, lldpdu.len());
+            for destination in [EVERYONE, GROUP] {
+                let frame = headed(destination, case.description.chassis, LLDP, &lldpdu);
+                assert_eq!(read_frame(&frame).as_ref(), Ok(&reading));
+            }
+        }
+    }
+
+    #[test]
+    fn what_is_written_is_htip_exactly_with_seconds_above_0() {
+        let written = written();
+        assert!(written.iter().all(|(case, _, read)| read.htip == (case.description.seconds > 0)));
+        assert!(written.iter().filter(|(_, _, read)| !read.htip).count() >= 20);
+    }
+
+    #[test]
+    fn what_was_read_back_gives_the_same_octets() {
+        for (_, lldpdu, reading) in written() {
+            assert_eq!(written_again(&Plan::read_back(&reading)), lldpdu);
+        }
+    }
+
+    /// Not even one octet less of room will do, and no more is needed (R10).
+    #[test]
+    fn the_exact_room_is_enough() {
+        for (case, lldpdu, _) in written() {
+            let with_room = |room| write(&case.description, &case.text, room);
+            assert_eq!(with_room(lldpdu.len() - 1), Err(10));
+            assert_eq!(with_room(lldpdu.len()), Ok(lldpdu));
+        }
+    }
+
+    /// A description that breaks a rule gives 9 whatever the room is (R11).
+    #[test]
+    fn nine_does_not_depend_on_the_room() {
+        for case in cases().iter().filter(|case| case.meant == Err(9)) {
+            for room in [0, 1, 36, 37, 1499, 1500, 1600] {
+                assert_eq!(write(&case.description, &case.text, room), Err(9));
+            }
+        }
+    }
+}

@@ -1,0 +1,230 @@
+//! Cases for where things lie: parts in the text and outside it, and output buffers of all sizes.
+//! A part that lies outside is wrong by its numbers alone; the octets of the text are sound.
+
+use super::maker::Maker;
+use super::plan::{append, Field, Plan};
+use crate::writer::{Description, LinkStrings, Part};
+
+impl Maker {
+    pub fn places(&mut self) {
+        for field in Field::ALL {
+            self.at_the_end(field);
+            self.far_outside(field);
+        }
+        self.absent_strings();
+        self.empty_texts();
+        self.shared_octets();
+        self.windows();
+        self.rooms_for_sound();
+        self.rooms_for_broken();
+    }
+
+    /// The field stands last in the text; a gap before each string lets no part begin at 0.
+    fn field_last(&mut self, field: Field) -> (Plan, Description, Vec<u8>) {
+        let plan = self.full();
+        let last = field as usize;
+        let mut order: Vec<usize> = (0..Field::ALL.len()).filter(|&place| place != last).collect();
+        self.rng.shuffle(&mut order);
+        order.push(last);
+        let (description, text) = plan.laid_out(&order, |text, string| {
+            text.push(self.rng.octet());
+            append(text, string)
+        });
+        (plan, description, text)
+    }
+
+    /// A part that ends where the text ends, or one octet behind it (W7).
+    fn at_the_end(&mut self, field: Field) {
+        let (mut plan, mut description, text) = self.field_last(field);
+        let room = self.enough_for(&plan);
+        let end = text.len() as u64;
+        let Part { start, len } = *description.at(field);
+        assert!(start > 0 && start + len == end);
+        self.add_sound((description.clone(), text.clone()), plan.length(), room);
+        for (start, len) in [(start + 1, len), (start, len + 1), (end, 1), (end + 1, 0)] {
+            *description.at(field) = Part { start, len };
+            self.add((description.clone(), text.clone()), room, Err(9));
+        }
+        // Nothing, at the very end, lies inside.
+        *description.at(field) = Part { start: end, len: 0 };
+        plan.at(field).clear();
+        let room = self.enough_for(&plan);
+        let meant = if field.may_be_empty() { Ok(plan.length()) } else { Err(9) };
+        self.add((description, text), room, meant);
+    }
+
+    /// Numbers that are huge, right in their low bits only, or whose sum wraps to a small one (W7).
+    fn far_outside(&mut self, field: Field) {
+        let (plan, mut description, text) = self.field_last(field);
+        let Part { start, len } = *description.at(field);
+        for (start, len) in [
+            (start + (1 << 32), len),
+            (1 << 63, len),
+            (1 << 63, 1 << 63),
+            (u64::MAX, 0),
+            (u64::MAX, len),
+            (u64::MAX - len + 1, len),
+            (start, len + (1 << 32)),
+            (start, 1 << 63),
+            (start, u64::MAX),
+            (start, u64::MAX - start + 1),
+        ] {
+            *description.at(field) = Part { start, len };
+            let room = self.enough_for(&plan);
+            self.add((description.clone(), text.clone()), room, Err(9));
+        }
+    }
+
+    /// Strings that seconds 0 wants absent, and that yet have to begin in the text (W3, W7).
+    fn absent_strings(&mut self) {
+        let plan = self.goodbye();
+        let fields = &Field::ALL[Field::Words as usize..=Field::ModelNumber as usize];
+        let (mut description, mut text) = plan.in_order();
+        text.extend(self.rng.octets(2));
+        let end = text.len() as u64;
+        for start in [0, 1, end] {
+            for &field in fields {
+                *description.at(field) = Part { start, len: 0 };
+            }
+            let room = self.enough_for(&plan);
+            self.add_sound((description.clone(), text.clone()), plan.length(), room);
+        }
+        for &field in fields {
+            let mut description = description.clone();
+            *description.at(field) = Part { start: end + 1, len: 0 };
+            self.add((description, text.clone()), plan.length(), Err(9));
+        }
+    }
+
+    /// A text of no octets has no port ID, though an empty part lies in it (L4, W7).
+    fn empty_texts(&mut self) {
+        for mut plan in [self.goodbye(), self.plain()] {
+            for field in [Field::Port, Field::Category, Field::ModelNumber] {
+                plan.at(field).clear();
+            }
+            let (mut description, text) = plan.in_order();
+            self.add((description.clone(), text.clone()), 40, Err(9));
+            description.port.len = 1;
+            self.add((description, text), 40, Err(9));
+        }
+    }
+
+    /// Parts that are the same, or that lie in one another, made by hand.
+    fn shared_octets(&mut self) {
+        // A text of one octet; all strings are this octet, and the empty parts stand behind it.
+        let mut plan = self.plain();
+        for field in [Field::Port, Field::Category, Field::ModelNumber] {
+            *plan.at(field) = b"x".to_vec();
+        }
+        let whole = Part { start: 0, len: 1 };
+        let nothing = Part { start: 1, len: 0 };
+        let mut description = plan
+            .with(|string| Some(if string.is_empty() { nothing } else { whole }))
+            .expect("each string has its part");
+        self.add_sound((description.clone(), b"x".to_vec()), plan.length(), plan.length());
+        plan.words = b"x".to_vec();
+        description.words = whole;
+        self.add_sound((description, b"x".to_vec()), plan.length(), plan.length());
+
+        // Both tables have the same addresses, or addresses that lie askew in one another; the
+        // other strings lie in them as well.
+        for (first, second) in [((0, 18), (0, 18)), ((0, 12), (3, 12)), ((5, 6), (0, 18))] {
+            let part = |(start, len)| Part { start, len };
+            let mut description = Description {
+                chassis: [2, 0, 0, 0, 0, 1],
+                port_subtype: 7,
+                seconds: 120,
+                port: part((17, 1)),
+                words: part((1, 9)),
+                category: part((0, 18)),
+                manufacturer: part((6, 6)),
+                model_name: part((2, 15)),
+                model_number: part((3, 14)),
+                link: Some(LinkStrings {
+                    interface: part((5, 1)),
+                    number: part((5, 4)),
+                    addresses: part(first),
+                }),
+                list: Some(part(second)),
+            };
+            let text = self.words(18);
+            let strings = description.with(|part| Some(vec![0; part.len as usize]));
+            let length = strings.expect("each string has its octets").length();
+            self.add_sound((description.clone(), text.clone()), length, length);
+            // With one octet less in the text, what reached its end lies outside.
+            self.add((description.clone(), text[..17].to_vec()), length, Err(9));
+            description.port = part((18, 1));
+            self.add((description, text), length, Err(9));
+        }
+    }
+
+    /// Every part is some window of a short text, so that parts overlap in all ways.
+    fn windows(&mut self) {
+        for _ in 0..16 {
+            let count = self.rng.between(12, 40);
+            let text = self.words(count);
+            let plan = self.some();
+            let mut parts = Vec::new();
+            for string in plan.strings() {
+                // As long as the plan's own string, which is sound; the octets are the text's.
+                let start = self.rng.between(0, text.len() - string.len());
+                parts.push(Part { start: start as u64, len: string.len() as u64 });
+            }
+            let mut parts = parts.into_iter();
+            let description = plan.with(|_| parts.next()).expect("each string has its part");
+            let room = self.enough_for(&plan);
+            self.add_sound((description, text), plan.length(), room);
+        }
+    }
+
+    /// Buffers that are empty, too short by little, exact and longer (R10, W4).
+    fn rooms_for_sound(&mut self) {
+        let mut frame_a = self.plain();
+        frame_a.chassis = [2, 0, 0, 0, 0, 1];
+        frame_a.port_subtype = 7;
+        frame_a.seconds = 120;
+        frame_a.port = b"1".to_vec();
+        frame_a.category = b"A".to_vec();
+        frame_a.model_number = b"7".to_vec();
+        // Frame A of the bench has 37 octets behind its header.
+        for room in 0..=39 {
+            self.sound_in(&frame_a, room);
+        }
+        let plans = [self.goodbye(), self.some(), self.full(), self.of_length(700)];
+        for plan in plans {
+            let length = plan.length();
+            for room in [0, 1, length - 2, length - 1, length, length + 1, length + 60] {
+                self.sound_in(&plan, room);
+            }
+        }
+        let longest = self.of_length(1500);
+        for room in [0, 1498, 1499, 1500, 1501, 1600] {
+            self.sound_in(&longest, room);
+        }
+    }
+
+    /// The same for descriptions that break a rule: 9 goes before 10 (R11).
+    fn rooms_for_broken(&mut self) {
+        let mut plans = vec![self.full(); 8];
+        plans[0].port_subtype = 8;
+        plans[1].port.clear();
+        plans[2].words.push(b'&');
+        plans[3].category.clear();
+        plans[4].model_number = vec![b'L'; 32];
+        *plans[5].at(Field::Number) = vec![1; 5];
+        plans[6].at(Field::ListAddresses).pop();
+        plans[7].seconds = 0;
+        for plan in plans {
+            let length = plan.length();
+            for room in [0, length - 1, length, length + 40] {
+                self.broken_in(&plan, room);
+            }
+        }
+        // Too many addresses, with room for fewer.
+        let mut plan = self.plain();
+        plan.list = Some(self.addresses(85));
+        for room in [0, plan.length() - 1, plan.length(), 1600] {
+            self.broken_in(&plan, room);
+        }
+    }
+}

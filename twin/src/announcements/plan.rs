@@ -1,0 +1,157 @@
+//! A plan: a description that has the octets of its strings itself, and need not be sound.
+//! It is laid out in a text to become a case, and what was read back becomes a plan again.
+
+use crate::reader::Reading;
+use crate::writer::{Description, LinkStrings, Part};
+
+pub type Plan = Description<Vec<u8>>;
+
+/// The strings of a description, in its order.
+#[derive(Clone, Copy, Debug, PartialEq, Eq)]
+pub enum Field {
+    Port,
+    Words,
+    Category,
+    Manufacturer,
+    ModelName,
+    ModelNumber,
+    Interface,
+    Number,
+    LinkAddresses,
+    ListAddresses,
+}
+
+use Field::*;
+
+impl Field {
+    pub const ALL: [Field; 10] = [
+        Port,
+        Words,
+        Category,
+        Manufacturer,
+        ModelName,
+        ModelNumber,
+        Interface,
+        Number,
+        LinkAddresses,
+        ListAddresses,
+    ];
+
+    /// Whether it may have no octets with seconds above 0 (L4, W1, W2, T7, T8).
+    pub fn may_be_empty(self) -> bool {
+        matches!(self, Words | Manufacturer | ModelName | LinkAddresses | ListAddresses)
+    }
+}
+
+impl<S> Description<S> {
+    /// One of the strings; where it is one of a table's, the table is present.
+    pub(super) fn at(&mut self, field: Field) -> &mut S {
+        match field {
+            Port => &mut self.port,
+            Words => &mut self.words,
+            Category => &mut self.category,
+            Manufacturer => &mut self.manufacturer,
+            ModelName => &mut self.model_name,
+            ModelNumber => &mut self.model_number,
+            Interface => &mut self.link_strings().interface,
+            Number => &mut self.link_strings().number,
+            LinkAddresses => &mut self.link_strings().addresses,
+            ListAddresses => self.list.as_mut().expect("the address list is present"),
+        }
+    }
+
+    fn link_strings(&mut self) -> &mut LinkStrings<S> {
+        self.link.as_mut().expect("link information is present")
+    }
+}
+
+impl Plan {
+    /// The description that a reading amounts to (W6).
+    pub(super) fn read_back(reading: &Reading) -> Plan {
+        Plan {
+            chassis: reading.outline.chassis,
+            port_subtype: reading.outline.port_subtype,
+            seconds: reading.outline.seconds,
+            port: reading.outline.port.clone(),
+            words: reading.description.clone(),
+            category: reading.category.clone(),
+            manufacturer: reading.manufacturer.clone(),
+            model_name: reading.model_name.clone(),
+            model_number: reading.model_number.clone(),
+            link: reading.link.as_ref().map(|link| LinkStrings {
+                interface: link.interface.clone(),
+                number: link.number.clone(),
+                addresses: link.addresses.concat(),
+            }),
+            list: reading.list.as_ref().map(|addresses| addresses.concat()),
+        }
+    }
+
+    /// How many octets the LLDPDU would have (W1), from the lengths of the strings alone: the two
+    /// octets of each header, and L by L3 to L5, T2, T7 and T8.
+    pub(super) fn length(&self) -> usize {
+        let leading = (2 + 7) + (2 + 1 + self.port.len()) + (2 + 2);
+        let words = if self.words.is_empty() { 0 } else { 2 + self.words.len() };
+        let devices: usize =
+            [&self.category, &self.manufacturer, &self.model_name, &self.model_number]
+                .iter()
+                .filter(|string| !string.is_empty())
+                .map(|string| 2 + 6 + string.len())
+                .sum();
+        let link = self.link.as_ref().map_or(0, |LinkStrings { interface, number, addresses }| {
+            2 + 7 + interface.len() + number.len() + addresses.len()
+        });
+        let list = self.list.as_ref().map_or(0, |addresses| 2 + 5 + addresses.len());
+        leading + words + devices + link + list + 2
+    }
+
+    /// All strings that are there, in the order of the description.
+    pub(super) fn strings(&self) -> Vec<Vec<u8>> {
+        let mut strings = Vec::new();
+        self.with(|string| {
+            strings.push(string.clone());
+            Some(())
+        });
+        strings
+    }
+
+    /// The strings stand in the text one behind the other, in their order.
+    pub(super) fn in_order(&self) -> (Description, Vec<u8>) {
+        let order: Vec<usize> = (0..self.strings().len()).collect();
+        self.laid_out(&order, append)
+    }
+
+    /// The strings are put into the text in the given order.
+    pub(super) fn laid_out(
+        &self,
+        order: &[usize],
+        mut put: impl FnMut(&mut Vec<u8>, &[u8]) -> Part,
+    ) -> (Description, Vec<u8>) {
+        let strings = self.strings();
+        let mut text = Vec::new();
+        let mut parts = vec![Part { start: 0, len: 0 }; strings.len()];
+        for &place in order {
+            parts[place] = put(&mut text, &strings[place]);
+        }
+        let mut parts = parts.into_iter();
+        let description = self.with(|_| parts.next()).expect("each string has its part");
+        (description, text)
+    }
+}
+
+/// Puts the string at the end of the text.
+pub fn append(text: &mut Vec<u8>, string: &[u8]) -> Part {
+    let start = text.len();
+    text.extend(string);
+    Part { start: start as u64, len: string.len() as u64 }
+}
+
+/// Puts the string only where the text does not have it yet, so that parts overlap.
+pub fn share(text: &mut Vec<u8>, string: &[u8]) -> Part {
+    // An empty string has no window, and is put wherever the end is.
+    let found = text.windows(string.len().max(1)).position(|window| window == string);
+    match found {
+        Some(start) => Part { start: start as u64, len: string.len() as u64 },
+        None => append(text, string),
+    }
+}

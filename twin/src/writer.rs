@@ -1,0 +1,231 @@
+//! The writer: a description, its strings being parts of a text, becomes an LLDPDU or a refusal.
+//! The LLDPDU is put together whole and only then held against the room, so that 9 comes before 10.
+
+use crate::reader::{Address, Refusal};
+
+const BREAKS_A_RULE: Refusal = 9;
+const NO_ROOM: Refusal = 10;
+
+const LONGEST_LLDPDU: usize = 1500;
+const LONGEST_VALUE: usize = 511;
+
+const END: u8 = 0;
+const CHASSIS: u8 = 1;
+const PORT: u8 = 2;
+const SECONDS: u8 = 3;
+const WORDS: u8 = 4;
+const ORGANIZATION: u8 = 127;
+
+const DEVICE: u8 = 1;
+const LINK: u8 = 2;
+const LIST: u8 = 3;
+
+/// What is to be written. Its strings are parts of a text, or octets of their own; an absent string
+/// is empty (A2), but an absent table is not an empty one (A3).
+#[derive(Clone, Debug, PartialEq, Eq)]
+pub struct Description<S = Part> {
+    pub chassis: Address,
+    pub port_subtype: u8,
+    pub seconds: u16,
+    pub port: S,
+    /// The port description.
+    pub words: S,
+    pub category: S,
+    pub manufacturer: S,
+    pub model_name: S,
+    pub model_number: S,
+    pub link: Option<LinkStrings<S>>,
+    /// All octets of the addresses, one address behind the other.
+    pub list: Option<S>,
+}
+
+#[derive(Clone, Debug, PartialEq, Eq)]
+pub struct LinkStrings<S = Part> {
+    pub interface: S,
+    pub number: S,
+    /// All octets of the addresses, one address behind the other.
+    pub addresses: S,
+}
+
+/// So many octets of the text, from `start` on. Any two numbers can be handed in.
+#[derive(Clone, Copy, Debug, PartialEq, Eq)]
+pub struct Part {
+    pub start: u64,
+    pub len: u64,
+}
+
+impl Part {
+    /// None if the part lies outside the text (W7). Start and length are never added up, so nothing
+    /// wraps; an empty part may begin where the text ends.
+    fn of(self, text: &[u8]) -> Option<&[u8]> {
+        let start = usize::try_from(self.start).ok()?;
+        let len = usize::try_from(self.len).ok()?;
+        text.get(start..)?.get(..len)
+    }
+}
+
+impl<S> Description<S> {
+    /// The same with each string turned into something else, front to back; None if one cannot be.
+    pub fn with<T>(&self, mut turned: impl FnMut(&S) -> Option<T>) -> Option<Description<T>> {
+        Some(Description {
+            chassis: self.chassis,
+            port_subtype: self.port_subtype,
+            seconds: self.seconds,
+            port: turned(&self.port)?,
+            words: turned(&self.words)?,
+            category: turned(&self.category)?,
+            manufacturer: turned(&self.manufacturer)?,
+            model_name: turned(&self.model_name)?,
+            model_number: turned(&self.model_number)?,
+            link: match &self.link {
+                Some(link) => Some(LinkStrings {
+                    interface: turned(&link.interface)?,
+                    number: turned(&link.number)?,
+                    addresses: turned(&link.addresses)?,
+                }),
+                None => None,
+            },
+            list: match &self.list {
+                Some(addresses) => Some(turned(addresses)?),
+                None => None,
+            },
+        })
+    }
+}
+
+/// The LLDPDU without a frame header, to stand at the front of an output buffer with that much room
+/// (W4). A refusal is a number alone (R12).
+pub fn write(description: &Description, text: &[u8], room: usize) -> Result<Vec<u8>, Refusal> {
+    // A part that is not written, being empty, has to lie in the text all the same (W7).
+    let lldpdu = description
+        .with(|part| part.of(text))
+        .and_then(|description| lldpdu(&description))
+        .ok_or(BREAKS_A_RULE)?;
+    if lldpdu.len() <= room {
+        Ok(lldpdu)
+    } else {
+        Err(NO_ROOM)
+    }
+}
+
+/// The TLVs in their order (W1); None where a rule is broken (R9).
+fn lldpdu(description: &Description<&[u8]>) -> Option<Vec<u8>> {
+    let later = match description.seconds {
+        0 => nothing_later(description)?,
+        _ => later_tlvs(description)?,
+    };
+    let whole = [
+        tlv(CHASSIS, &[&[4], &description.chassis])?,
+        port_tlv(description.port_subtype, description.port)?,
+        tlv(SECONDS, &[&description.seconds.to_be_bytes()])?,
+        later,
+        tlv(END, &[])?,
+    ]
+    .concat();
+    (whole.len() <= LONGEST_LLDPDU).then_some(whole)
+}
+
+/// With seconds 0 all but chassis and port ID is absent; a table without addresses is not (W3).
+fn nothing_later(description: &Description<&[u8]>) -> Option<Vec<u8>> {
+    let Description { words, category, manufacturer, model_name, model_number, link, list, .. } =
+        description;
+    let strings = [words, category, manufacturer, model_name, model_number];
+    let absent = strings.iter().all(|string| string.is_empty()) && link.is_none() && list.is_none();
+    absent.then(Vec::new)
+}
+
+/// What stands between the third TLV and the End with seconds above 0 (W1). Category and model
+/// number are always written, so that an empty one breaks T3 (W2).
+fn later_tlvs(description: &Description<&[u8]>) -> Option<Vec<u8>> {
+    let link = match &description.link {
+        Some(link) => link_tlv(link)?,
+        None => vec![],
+    };
+    let list = match description.list {
+        Some(addresses) => ttc_tlv(LIST, &[&count_of(addresses)?, addresses])?,
+        None => vec![],
+    };
+    let tlvs = [
+        if_any(description.words, words_tlv)?,
+        device_tlv(1, description.category, 255)?,
+        if_any(description.manufacturer, |string| device_tlv(2, string, 6))?,
+        if_any(description.model_name, |string| device_tlv(3, string, 31))?,
+        device_tlv(4, description.model_number, 31)?,
+        link,
+        list,
+    ];
+    Some(tlvs.concat())
+}
+
+/// An empty string is an absent one, and no TLV is written for it (W1).
+fn if_any(string: &[u8], tlv: impl Fn(&[u8]) -> Option<Vec<u8>>) -> Option<Vec<u8>> {
+    if string.is_empty() {
+        Some(vec![])
+    } else {
+        tlv(string)
+    }
+}
+
+/// Subtype 1 to 7 and 1 to 255 octets, taken as they are (L4).
+fn port_tlv(subtype: u8, octets: &[u8]) -> Option<Vec<u8>> {
+    if !(1..=7).contains(&subtype) || !(1..=255).contains(&octets.len()) {
+        return None;
+    }
+    tlv(PORT, &[&[subtype], octets])
+}
+
+/// At most 255 octets, each of them one of the allowed characters (T10).
+fn words_tlv(words: &[u8]) -> Option<Vec<u8>> {
+    if words.len() > 255 || !words.iter().all(|&octet| may_be_in_words(octet)) {
+        return None;
+    }
+    tlv(WORDS, &[words])
+}
+
+fn may_be_in_words(octet: u8) -> bool {
+    const SIGNS: [u8; 19] = *b"-'()+,./:=?;!*#@$_%";
+    matches!(octet, b' ' | b'A'..=b'Z' | b'a'..=b'z' | b'0'..=b'9') || SIGNS.contains(&octet)
+}
+
+/// ID, string length, string (T2). Only the length is limited, not the octets (T3).
+fn device_tlv(id: u8, string: &[u8], longest: usize) -> Option<Vec<u8>> {
+    let s = counted(string, 1, longest)?;
+    ttc_tlv(DEVICE, &[&[id], &s, string])
+}
+
+/// n, interface type, m, port number, k, addresses (T7). That L is at most 511 limits the addresses
+/// (W5).
+fn link_tlv(link: &LinkStrings<&[u8]>) -> Option<Vec<u8>> {
+    let n = counted(link.interface, 1, 4)?;
+    let m = counted(link.number, 1, 4)?;
+    let k = count_of(link.addresses)?;
+    ttc_tlv(LINK, &[&n, link.interface, &m, link.number, &k, link.addresses])
+}
+
+/// The octet that states the length of a string, if the length lies within its bounds.
+fn counted(string: &[u8], shortest: usize, longest: usize) -> Option<[u8; 1]> {
+    let within = (shortest..=longest).contains(&string.len());
+    Some([u8::try_from(string.len()).ok().filter(|_| within)?])
+}
+
+/// The octet that states how many addresses there are; a piece of one is too much (W7).
+fn count_of(addresses: &[u8]) -> Option<[u8; 1]> {
+    let whole = addresses.len().is_multiple_of(6);
+    Some([u8::try_from(addresses.len() / 6).ok().filter(|_| whole)?])
+}
+
+/// A TLV of type 127 that belongs to TTC (T1).
+fn ttc_tlv(subtype: u8, body: &[&[u8]]) -> Option<Vec<u8>> {
+    tlv(ORGANIZATION, &[&[0xE0, 0x27, 0x1A, subtype], body.concat().as_slice()])
+}
+
+/// Seven bits of type, nine of length, and then the information string (L1), which has at most 511
+/// octets (W5).
+fn tlv(kind: u8, value: &[&[u8]]) -> Option<Vec<u8>> {
+    let value = value.concat();
+    if value.len() > LONGEST_VALUE {
+        return None;
+    }
+    let header = [kind << 1 | (value.len() >> 8) as u8, value.len() as u8];
+    Some([&header, value.as_slice()].concat())
+}
