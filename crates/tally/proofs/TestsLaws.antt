@@ -1,9 +1,11 @@
 -- Laws of joined tests: what a conjunction that holds says of its parts.
 -- `held` takes any list of tests apart in one step.
 use Prim.{Unit, tt}
+use Prim.Native.Nat.{ℕ, zero, suc}
 use mathlib.Core.Path.{_≡_, refl}
 use mathlib.Core.List.{List, [], _∷_}
 use mathlib.Core.Bool.{Bool, true, false}
+use lib.ListN.{getD}
 use Rattle.tally.specs.Tests.{both, either, all}
 
 pub both-true : (a b : Bool) → both a b ≡ true → (a ≡ true) × (b ≡ true)
@@ -27,3 +29,10 @@ Held (b ∷ l) = (b ≡ true) × Held l
 pub held : (l : List Bool) → all l ≡ true → Held l
 held [] e = tt
 held (b ∷ l) e = let p = both-true b (all l) e in (p .0, held l (p .1))
+
+-- one test that fails decides, wherever it stands in the list
+pub all-fails : (l : List Bool) (k : ℕ) → getD l k true ≡ false → all l ≡ false
+all-fails [] k e = let z : _≡_ {A = Bool} true false = e in cc
+all-fails (b ∷ l) zero e = rw e
+all-fails (true ∷ l) (suc k) e = all-fails l k e
+all-fails (false ∷ l) (suc k) e = refl

@@ -99,9 +99,9 @@ abbrev pub listInside : ℕ → AddressList → Bool
 listInside n list-is.Absent = true
 listInside n (list-is.Listed a) = partInside n a
 
-unfoldable pub allInside : ℕ → Description → Bool
-allInside n d =
-    all (partInside n (d .port)
+abbrev pub partRules : ℕ → Description → List Bool
+partRules n d =
+    partInside n (d .port)
     ∷ partInside n (d .words)
     ∷ partInside n (d .category)
     ∷ partInside n (d .manufacturer)
@@ -109,4 +109,7 @@ allInside n d =
     ∷ partInside n (d .number)
     ∷ linkInside n (d .link)
     ∷ listInside n (d .list)
-    ∷ [])
+    ∷ []
+
+unfoldable pub allInside : ℕ → Description → Bool
+allInside n d = all (partRules n d)

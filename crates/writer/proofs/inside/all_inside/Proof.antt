@@ -1,10 +1,10 @@
 -- `writer::inside::all_inside` meets its contract: the eight parts, front to back.
--- Each return cites the tests that led to it.
+-- One test that fails decides (all-fails of TestsLaws); where all pass, the last return cites them.
+use Rattle.tally.proofs.TestsLaws.{all-fails, both-end}
+use Rattle.writer.specs.Rules.{partRules, listInside, allInside}
 use mathlib.Core.Path.{sym, _∙_}
 use borrow.Author.Tests.{not-true, not-false}
 use borrow.Author.Needs.{needs}
-use Rattle.tally.proofs.TestsLaws.{both-end}
-use Rattle.writer.specs.Rules.{listInside, allInside}
 use Rattle.writer.proofs.inside.all_inside.Statement.{statement}
 use Rattle.writer.proofs.inside.all_inside.Tie as tie
 
@@ -13,137 +13,49 @@ part-inside-requires c κs = search needs
 
 returns : tie.Need-returns
 unfolding allInside
-returns c =
-    rw (sym (c .before .part-inside .ensures) ∙ not-true (c .before .part-inside .result) (c .if1 .taken))
+returns c = sym (all-fails (partRules (c .before .before .args .n) (c .before .before .args .d)) 0 (sym (c .before .part-inside .ensures) ∙ not-true _ (c .if1 .taken)))
 
 part-inside-requires-2 : tie.Need-part-inside-requires-2
 part-inside-requires-2 c κs = search needs
 
 returns-2 : tie.Need-returns-2
 unfolding allInside
-returns-2 c =
-    let c1 = c .before in
-    let c2 = c1 .before in
-    let c3 = c2 .before in
-    rw (
-      sym (c3 .part-inside .ensures) ∙ not-false (c3 .part-inside .result) (c2 .if1 .left),
-      sym (c1 .part-inside2 .ensures) ∙ not-true (c1 .part-inside2 .result) (c .if2 .taken),
-    )
+returns-2 c = sym (all-fails (partRules (c .before .before .before .before .args .n) (c .before .before .before .before .args .d)) 1 (sym (c .before .part-inside2 .ensures) ∙ not-true _ (c .if2 .taken)))
 
 part-inside-requires-3 : tie.Need-part-inside-requires-3
 part-inside-requires-3 c κs = search needs
 
 returns-3 : tie.Need-returns-3
 unfolding allInside
-returns-3 c =
-    let c1 = c .before in
-    let c2 = c1 .before in
-    let c3 = c2 .before in
-    let c4 = c3 .before in
-    let c5 = c4 .before in
-    rw (
-      sym (c5 .part-inside .ensures) ∙ not-false (c5 .part-inside .result) (c4 .if1 .left),
-      sym (c3 .part-inside2 .ensures) ∙ not-false (c3 .part-inside2 .result) (c2 .if2 .left),
-      sym (c1 .part-inside3 .ensures) ∙ not-true (c1 .part-inside3 .result) (c .if3 .taken),
-    )
+returns-3 c = sym (all-fails (partRules (c .before .before .before .before .before .before .args .n) (c .before .before .before .before .before .before .args .d)) 2 (sym (c .before .part-inside3 .ensures) ∙ not-true _ (c .if3 .taken)))
 
 part-inside-requires-4 : tie.Need-part-inside-requires-4
 part-inside-requires-4 c κs = search needs
 
 returns-4 : tie.Need-returns-4
 unfolding allInside
-returns-4 c =
-    let c1 = c .before in
-    let c2 = c1 .before in
-    let c3 = c2 .before in
-    let c4 = c3 .before in
-    let c5 = c4 .before in
-    let c6 = c5 .before in
-    let c7 = c6 .before in
-    rw (
-      sym (c7 .part-inside .ensures) ∙ not-false (c7 .part-inside .result) (c6 .if1 .left),
-      sym (c5 .part-inside2 .ensures) ∙ not-false (c5 .part-inside2 .result) (c4 .if2 .left),
-      sym (c3 .part-inside3 .ensures) ∙ not-false (c3 .part-inside3 .result) (c2 .if3 .left),
-      sym (c1 .part-inside4 .ensures) ∙ not-true (c1 .part-inside4 .result) (c .if4 .taken),
-    )
+returns-4 c = sym (all-fails (partRules (c .before .before .before .before .before .before .before .before .args .n) (c .before .before .before .before .before .before .before .before .args .d)) 3 (sym (c .before .part-inside4 .ensures) ∙ not-true _ (c .if4 .taken)))
 
 part-inside-requires-5 : tie.Need-part-inside-requires-5
 part-inside-requires-5 c κs = search needs
 
 returns-5 : tie.Need-returns-5
 unfolding allInside
-returns-5 c =
-    let c1 = c .before in
-    let c2 = c1 .before in
-    let c3 = c2 .before in
-    let c4 = c3 .before in
-    let c5 = c4 .before in
-    let c6 = c5 .before in
-    let c7 = c6 .before in
-    let c8 = c7 .before in
-    let c9 = c8 .before in
-    rw (
-      sym (c9 .part-inside .ensures) ∙ not-false (c9 .part-inside .result) (c8 .if1 .left),
-      sym (c7 .part-inside2 .ensures) ∙ not-false (c7 .part-inside2 .result) (c6 .if2 .left),
-      sym (c5 .part-inside3 .ensures) ∙ not-false (c5 .part-inside3 .result) (c4 .if3 .left),
-      sym (c3 .part-inside4 .ensures) ∙ not-false (c3 .part-inside4 .result) (c2 .if4 .left),
-      sym (c1 .part-inside5 .ensures) ∙ not-true (c1 .part-inside5 .result) (c .if5 .taken),
-    )
+returns-5 c = sym (all-fails (partRules (c .before .before .before .before .before .before .before .before .before .before .args .n) (c .before .before .before .before .before .before .before .before .before .before .args .d)) 4 (sym (c .before .part-inside5 .ensures) ∙ not-true _ (c .if5 .taken)))
 
 part-inside-requires-6 : tie.Need-part-inside-requires-6
 part-inside-requires-6 c κs = search needs
 
 returns-6 : tie.Need-returns-6
 unfolding allInside
-returns-6 c =
-    let c1 = c .before in
-    let c2 = c1 .before in
-    let c3 = c2 .before in
-    let c4 = c3 .before in
-    let c5 = c4 .before in
-    let c6 = c5 .before in
-    let c7 = c6 .before in
-    let c8 = c7 .before in
-    let c9 = c8 .before in
-    let c10 = c9 .before in
-    let c11 = c10 .before in
-    rw (
-      sym (c11 .part-inside .ensures) ∙ not-false (c11 .part-inside .result) (c10 .if1 .left),
-      sym (c9 .part-inside2 .ensures) ∙ not-false (c9 .part-inside2 .result) (c8 .if2 .left),
-      sym (c7 .part-inside3 .ensures) ∙ not-false (c7 .part-inside3 .result) (c6 .if3 .left),
-      sym (c5 .part-inside4 .ensures) ∙ not-false (c5 .part-inside4 .result) (c4 .if4 .left),
-      sym (c3 .part-inside5 .ensures) ∙ not-false (c3 .part-inside5 .result) (c2 .if5 .left),
-      sym (c1 .part-inside6 .ensures) ∙ not-true (c1 .part-inside6 .result) (c .if6 .taken),
-    )
+returns-6 c = sym (all-fails (partRules (c .before .before .before .before .before .before .before .before .before .before .before .before .args .n) (c .before .before .before .before .before .before .before .before .before .before .before .before .args .d)) 5 (sym (c .before .part-inside6 .ensures) ∙ not-true _ (c .if6 .taken)))
 
 link-inside-requires : tie.Need-link-inside-requires
 link-inside-requires c κs = search needs
 
 returns-7 : tie.Need-returns-7
 unfolding allInside
-returns-7 c =
-    let c1 = c .before in
-    let c2 = c1 .before in
-    let c3 = c2 .before in
-    let c4 = c3 .before in
-    let c5 = c4 .before in
-    let c6 = c5 .before in
-    let c7 = c6 .before in
-    let c8 = c7 .before in
-    let c9 = c8 .before in
-    let c10 = c9 .before in
-    let c11 = c10 .before in
-    let c12 = c11 .before in
-    let c13 = c12 .before in
-    rw (
-      sym (c13 .part-inside .ensures) ∙ not-false (c13 .part-inside .result) (c12 .if1 .left),
-      sym (c11 .part-inside2 .ensures) ∙ not-false (c11 .part-inside2 .result) (c10 .if2 .left),
-      sym (c9 .part-inside3 .ensures) ∙ not-false (c9 .part-inside3 .result) (c8 .if3 .left),
-      sym (c7 .part-inside4 .ensures) ∙ not-false (c7 .part-inside4 .result) (c6 .if4 .left),
-      sym (c5 .part-inside5 .ensures) ∙ not-false (c5 .part-inside5 .result) (c4 .if5 .left),
-      sym (c3 .part-inside6 .ensures) ∙ not-false (c3 .part-inside6 .result) (c2 .if6 .left),
-      sym (c1 .link-inside .ensures) ∙ not-true (c1 .link-inside .result) (c .if7 .taken),
-    )
+returns-7 c = sym (all-fails (partRules (c .before .before .before .before .before .before .before .before .before .before .before .before .before .before .args .n) (c .before .before .before .before .before .before .before .before .before .before .before .before .before .before .args .d)) 6 (sym (c .before .link-inside .ensures) ∙ not-true _ (c .if7 .taken)))
 
 list-inside-requires : tie.Need-list-inside-requires
 list-inside-requires c κs = search needs

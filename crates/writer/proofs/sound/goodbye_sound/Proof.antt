@@ -1,12 +1,12 @@
 -- `writer::sound::goodbye_sound` meets its contract: seven absences, front to back.
--- Each return cites the tests that led to it.
+-- One test that fails decides (all-fails of TestsLaws); where all pass, the last return cites them.
+use Rattle.tally.proofs.TestsLaws.{all-fails, both-end}
+use Rattle.writer.specs.Rules.{goodbyeRules, noList}
+use Rattle.reader.specs.Meaning.{saidBy, listMeant}
 use mathlib.Core.Path.{sym, _∙_}
 use denote.Ref.{now}
 use borrow.Author.Tests.{eq-eqb, ne-eqb, not-true, not-false}
 use borrow.Author.Needs.{needs}
-use Rattle.tally.proofs.TestsLaws.{both-end}
-use Rattle.writer.specs.Rules.{noList}
-use Rattle.reader.specs.Meaning.{listMeant}
 use Rattle.writer.proofs.RulesLaws.{no-link-same, no-list-same}
 use Rattle.writer.proofs.sound.goodbye_sound.Statement.{statement}
 use Rattle.writer.proofs.sound.goodbye_sound.Tie as tie
@@ -15,95 +15,31 @@ count-of-requires : tie.Need-count-of-requires
 count-of-requires c κs = search needs
 
 returns : tie.Need-returns
-returns c =
-    rw (
-      ← c .before .count-of .ensures,
-      ne-eqb (c .before .count-of .result) 0 (c .if1 .taken),
-    )
+returns c = sym (all-fails (goodbyeRules (saidBy (now (c .before .before .before .args .text)) (c .before .before .before .args .d))) 0 (rw (← c .before .count-of .ensures) (ne-eqb _ 0 (c .if1 .taken))))
 
 count-of-requires-2 : tie.Need-count-of-requires-2
 count-of-requires-2 c κs = search needs
 
 returns-2 : tie.Need-returns-2
-returns-2 c =
-    let c1 = c .before in
-    let c2 = c1 .before in
-    let c3 = c2 .before in
-    rw (
-      ← c3 .count-of .ensures,
-      ← c1 .count-of2 .ensures,
-      eq-eqb (c3 .count-of .result) 0 (c2 .if1 .left),
-      ne-eqb (c1 .count-of2 .result) 0 (c .if2 .taken),
-    )
+returns-2 c = sym (all-fails (goodbyeRules (saidBy (now (c .before .before .before .before .before .args .text)) (c .before .before .before .before .before .args .d))) 1 (rw (← c .before .count-of2 .ensures) (ne-eqb _ 0 (c .if2 .taken))))
 
 count-of-requires-3 : tie.Need-count-of-requires-3
 count-of-requires-3 c κs = search needs
 
 returns-3 : tie.Need-returns-3
-returns-3 c =
-    let c1 = c .before in
-    let c2 = c1 .before in
-    let c3 = c2 .before in
-    let c4 = c3 .before in
-    let c5 = c4 .before in
-    rw (
-      ← c5 .count-of .ensures,
-      ← c3 .count-of2 .ensures,
-      ← c1 .count-of3 .ensures,
-      eq-eqb (c5 .count-of .result) 0 (c4 .if1 .left),
-      eq-eqb (c3 .count-of2 .result) 0 (c2 .if2 .left),
-      ne-eqb (c1 .count-of3 .result) 0 (c .if3 .taken),
-    )
+returns-3 c = sym (all-fails (goodbyeRules (saidBy (now (c .before .before .before .before .before .before .before .args .text)) (c .before .before .before .before .before .before .before .args .d))) 2 (rw (← c .before .count-of3 .ensures) (ne-eqb _ 0 (c .if3 .taken))))
 
 count-of-requires-4 : tie.Need-count-of-requires-4
 count-of-requires-4 c κs = search needs
 
 returns-4 : tie.Need-returns-4
-returns-4 c =
-    let c1 = c .before in
-    let c2 = c1 .before in
-    let c3 = c2 .before in
-    let c4 = c3 .before in
-    let c5 = c4 .before in
-    let c6 = c5 .before in
-    let c7 = c6 .before in
-    rw (
-      ← c7 .count-of .ensures,
-      ← c5 .count-of2 .ensures,
-      ← c3 .count-of3 .ensures,
-      ← c1 .count-of4 .ensures,
-      eq-eqb (c7 .count-of .result) 0 (c6 .if1 .left),
-      eq-eqb (c5 .count-of2 .result) 0 (c4 .if2 .left),
-      eq-eqb (c3 .count-of3 .result) 0 (c2 .if3 .left),
-      ne-eqb (c1 .count-of4 .result) 0 (c .if4 .taken),
-    )
+returns-4 c = sym (all-fails (goodbyeRules (saidBy (now (c .before .before .before .before .before .before .before .before .before .args .text)) (c .before .before .before .before .before .before .before .before .before .args .d))) 3 (rw (← c .before .count-of4 .ensures) (ne-eqb _ 0 (c .if4 .taken))))
 
 count-of-requires-5 : tie.Need-count-of-requires-5
 count-of-requires-5 c κs = search needs
 
 returns-5 : tie.Need-returns-5
-returns-5 c =
-    let c1 = c .before in
-    let c2 = c1 .before in
-    let c3 = c2 .before in
-    let c4 = c3 .before in
-    let c5 = c4 .before in
-    let c6 = c5 .before in
-    let c7 = c6 .before in
-    let c8 = c7 .before in
-    let c9 = c8 .before in
-    rw (
-      ← c9 .count-of .ensures,
-      ← c7 .count-of2 .ensures,
-      ← c5 .count-of3 .ensures,
-      ← c3 .count-of4 .ensures,
-      ← c1 .count-of5 .ensures,
-      eq-eqb (c9 .count-of .result) 0 (c8 .if1 .left),
-      eq-eqb (c7 .count-of2 .result) 0 (c6 .if2 .left),
-      eq-eqb (c5 .count-of3 .result) 0 (c4 .if3 .left),
-      eq-eqb (c3 .count-of4 .result) 0 (c2 .if4 .left),
-      ne-eqb (c1 .count-of5 .result) 0 (c .if5 .taken),
-    )
+returns-5 c = sym (all-fails (goodbyeRules (saidBy (now (c .before .before .before .before .before .before .before .before .before .before .before .args .text)) (c .before .before .before .before .before .before .before .before .before .before .before .args .d))) 4 (rw (← c .before .count-of5 .ensures) (ne-eqb _ 0 (c .if5 .taken))))
 
 no-link-requires : tie.Need-no-link-requires
 no-link-requires c κs = search needs
