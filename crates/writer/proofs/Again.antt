@@ -36,14 +36,13 @@ use Rattle.writer.specs.declared.Written.the-variants.{Octets, Refused}
 
 -- What an answer of n octets says of the description
 
-pub record Done (s : List ℕ) (d : Description) (room n : ℕ) : Type 0 where
+pub record Done (s : List ℕ) (d : Description) (n : ℕ) : Type 0 where
   pub inside : allInside (length s) d ≡ true
   pub sound : soundOf (saidBy s d) ≡ true
   pub count : n ≡ length (encode (saidBy s d))
   pub short : n ≤ 1500
-  pub room-enough : n ≤ room
 
-done : (s : List ℕ) (d : Description) (room n : ℕ) → writeOf s d room ≡ Octets n → Done s d room n
+done : (s : List ℕ) (d : Description) (room n : ℕ) → writeOf s d room ≡ Octets n → Done s d n
 unfolding writeOf keeps
 done s d room n e =
     go (allInside (length s) d) refl (soundOf (saidBy s d)) refl (leb size 1500) refl (leb size room) refl e
@@ -54,7 +53,7 @@ done s d room n e =
     go : (a : Bool) → allInside (length s) d ≡ a → (b : Bool) → soundOf (saidBy s d) ≡ b → (c : Bool) → leb (length (encode (saidBy s d))) 1500 ≡ c
         → (f : Bool) → leb (length (encode (saidBy s d))) room ≡ f
         → pick (both (both a b) c) (pick f (Octets (length (encode (saidBy s d)))) (Refused 10)) (Refused 9) ≡ Octets n
-        → Done s d room n
+        → Done s d n
     go true p true q true r true v w =
         let x : length (encode (saidBy s d)) ≡ n = cc in
         record {
@@ -62,7 +61,6 @@ done s d room n e =
           sound = q;
           count = sym x;
           short = omega (arith, leb-true (length (encode (saidBy s d))) 1500 r);
-          room-enough = omega (arith, leb-true (length (encode (saidBy s d))) room v);
         }
     go true p true q true r false v w = let z : _≡_ {A = ℕ} 0 1 = cc in absurd (omega arith)
     go true p true q false r f v w = let z : _≡_ {A = ℕ} 0 1 = cc in absurd (omega arith)
@@ -108,7 +106,7 @@ reading-inside s e v =
 
 -- `write` was called with d over s and wrote n octets to the front of out, which is now `now`; `read_lldpdu` was called on that
 module _ (s : List ℕ) (d : Description) (out now : List ℕ) (n : ℕ) (q : Reading) (w : Writes s d out (Octets n) now) (r : Reads now q) where
-  wrote : Done s d (length out) n
+  wrote : Done s d n
   wrote = done s d (length out) n (sym (w .exact))
 
   now-is : now ≡ encode (saidBy s d) ++ drop n out

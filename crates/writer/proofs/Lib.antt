@@ -8,4 +8,5 @@ pub mod ReadBack
 pub mod Topics
 pub mod RoundTrip
 pub mod Again
+pub mod Bench
 pub mod Sole
