@@ -1,4 +1,4 @@
--- The round trip (W6) for the code, from the contracts of `write` and `read_lldpdu` alone.
+-- The round trip (W6) for the code, from the contracts of `write`, `read_frame` and `read_lldpdu` alone.
 -- What was written is read back as the same description, and that description written again gives the same octets.
 use Prim.Native.Nat.{ℕ, _+_, _-_, _<_, _≤_}
 use mathlib.Core.Path.{_≡_, refl, sym, ap, ap₂, _∙_}
@@ -19,7 +19,8 @@ use Rattle.lldpdu.specs.declared.extent.Extent.the-variants as extent-is
 use Rattle.lldpdu.specs.declared.outline.Part.{Part}
 use Rattle.reader.specs.Found.{markOf}
 use Rattle.reader.specs.Reading.{partAt, linkAt, listAt, foundIn, readingOf}
-use Rattle.reader.specs.Meaning.{Answer, answerOf, saidBy, meant, Reads}
+use Rattle.reader.specs.Frame.{frameOk, onFrame, ReadsFrame}
+use Rattle.reader.specs.Meaning.{refused, Answer, answerOf, saidBy, meant, Reads}
 use Rattle.reader.proofs.MeaningLaws.{LinkFits, reading-link-fits, marks-inside}
 use Rattle.reader.specs.declared.found.Mark.{Mark}
 use Rattle.reader.specs.declared.reading.Link.{Link}
@@ -30,7 +31,7 @@ use Rattle.reader.specs.declared.reading.Reading.{Reading}
 use Rattle.writer.specs.Encode.{encode}
 use Rattle.writer.specs.Rules.{soundOf, partInside, linkInside, listInside, allInside}
 use Rattle.writer.specs.Write.{keeps, writeOf, octetsWritten, over, Writes}
-use Rattle.writer.proofs.RoundTrip.{answered, read-back, good-written}
+use Rattle.writer.proofs.RoundTrip.{answered, read-back, read-frame-back, good-written}
 use Rattle.writer.specs.declared.Written.{Written}
 use Rattle.writer.specs.declared.Written.the-variants.{Octets, Refused}
 
@@ -104,51 +105,55 @@ reading-inside s e v =
 
 -- The two sentences
 
--- `write` was called with d over s and wrote n octets to the front of out, which is now `now`; `read_lldpdu` was called on that
-module _ (s : List ℕ) (d : Description) (out now : List ℕ) (n : ℕ) (q : Reading) (w : Writes s d out (Octets n) now) (r : Reads now q) where
+-- `write` was called with d over s and wrote n octets to the front of out, which is now `now`
+module _ (s : List ℕ) (d : Description) (out now : List ℕ) (n : ℕ) (w : Writes s d out (Octets n) now) where
   wrote : Done s d n
   wrote = done s d (length out) n (sym (w .exact))
 
   now-is : now ≡ encode (saidBy s d) ++ drop n out
   now-is = w .output ∙ ap (λ (l : List ℕ). l ++ drop n out) (take-all n (encode (saidBy s d)) (omega (arith, wrote .count)))
 
-  -- it answered the same description, of n octets, and HTIP exactly with seconds above 0
-  pub same-description : meant now q ≡ answered (saidBy s d)
-  same-description = r .means ∙ ap answerOf now-is ∙ read-back (saidBy s d) (drop n out) (wrote .sound)
-
-  said-same : saidBy now (q .description) ≡ saidBy s d
-  said-same = ap (λ (a : Answer). a .said) same-description
-
-  extent-is-n : extentOf now ≡ extent-is.Octets (length (encode (saidBy s d)))
-  extent-is-n = ap extentOf now-is ∙ reads (encode (saidBy s d) ++ drop n out) (length (encode (saidBy s d))) (good-written (saidBy s d) (drop n out) (wrote .sound))
-
-  read-inside : allInside (length now) (q .description) ≡ true
-  read-inside =
-      ap (λ (x : Reading). allInside (length now) (x .description)) (r .exact)
-      ∙ reading-inside now (length (encode (saidBy s d))) extent-is-n
-
   front : take n now ≡ encode (saidBy s d)
   front = ap (take n) now-is ∙ take-at (encode (saidBy s d)) (drop n out) n (sym (wrote .count))
 
-  -- and `write` of what was read, over what was read, into an output with room writes the same octets again
-  pub same-octets : (out₂ now₂ : List ℕ) (r₂ : Written) → Writes now (q .description) out₂ r₂ now₂ → n ≤ length out₂
-      → (r₂ ≡ Octets n) × (take n now₂ ≡ take n now)
-  unfolding writeOf keeps
-  same-octets out₂ now₂ r₂ w₂ h =
-      let x = encode (saidBy s d) in
-      let c = wrote .count in
-      let e : r₂ ≡ Octets n =
-      w₂ .exact
-      ∙ rw (
-        read-inside,
-        said-same,
-        wrote .sound,
-        ← c,
-        le-leb n 1500 (wrote .short),
-        le-leb n (length out₂) h,
-      ) in
-      let o : now₂ ≡ take n x ++ drop n out₂ =
-      w₂ .output ∙ ap₂ (λ (k : ℕ) (y : List ℕ). over k y out₂) (ap octetsWritten e) (ap encode said-same) in (
-        e,
-        ap (take n) (o ∙ ap (λ (l : List ℕ). l ++ drop n out₂) (take-all n x (omega (arith, c)))) ∙ take-at x (drop n out₂) n (sym c) ∙ sym front,
-      )
+  -- `read_frame` of these octets, behind any header that fits and with any padding, answers the same description,
+  -- of n octets, and HTIP exactly with seconds above 0
+  pub same-frame : (h t : List ℕ) (q : Reading) → length h ≡ 14 → frameOk h ≡ true → length (take n now ++ t) ≤ 1500
+      → ReadsFrame (h ++ (take n now ++ t)) q → meant (drop 14 (h ++ (take n now ++ t))) q ≡ answered (saidBy s d)
+  same-frame h t q l o m r =
+      r .means
+      ∙ ap (λ (x : List ℕ). onFrame (refused 3) answerOf (h ++ (x ++ t))) front
+      ∙ read-frame-back (saidBy s d) h t (wrote .sound) l o (rw front at m)
+
+  -- `read_lldpdu` was called on the whole output
+  module _ (q : Reading) (r : Reads now q) where
+    pub same-description : meant now q ≡ answered (saidBy s d)
+    same-description = r .means ∙ ap answerOf now-is ∙ read-back (saidBy s d) (drop n out) (wrote .sound)
+
+    said-same : saidBy now (q .description) ≡ saidBy s d
+    said-same = ap (λ (a : Answer). a .said) same-description
+
+    extent-is-n : extentOf now ≡ extent-is.Octets (length (encode (saidBy s d)))
+    extent-is-n =
+        ap extentOf now-is
+        ∙ reads (encode (saidBy s d) ++ drop n out) (length (encode (saidBy s d))) (good-written (saidBy s d) (drop n out) (wrote .sound))
+
+    read-inside : allInside (length now) (q .description) ≡ true
+    read-inside =
+        ap (λ (x : Reading). allInside (length now) (x .description)) (r .exact)
+        ∙ reading-inside now (length (encode (saidBy s d))) extent-is-n
+
+    -- and `write` of what was read, over what was read, into an output with room writes the same octets again
+    pub same-octets : (out₂ now₂ : List ℕ) (r₂ : Written) → Writes now (q .description) out₂ r₂ now₂ → n ≤ length out₂
+        → (r₂ ≡ Octets n) × (take n now₂ ≡ take n now)
+    unfolding writeOf keeps
+    same-octets out₂ now₂ r₂ w₂ h =
+        let x = encode (saidBy s d) in
+        let c = wrote .count in
+        let e : r₂ ≡ Octets n =
+        w₂ .exact ∙ rw (read-inside, said-same, wrote .sound, ← c, le-leb n 1500 (wrote .short), le-leb n (length out₂) h) in
+        let o : now₂ ≡ take n x ++ drop n out₂ =
+        w₂ .output ∙ ap₂ (λ (k : ℕ) (y : List ℕ). over k y out₂) (ap octetsWritten e) (ap encode said-same) in (
+          e,
+          ap (take n) (o ∙ ap (λ (l : List ℕ). l ++ drop n out₂) (take-all n x (omega (arith, c)))) ∙ take-at x (drop n out₂) n (sym c) ∙ sym front,
+        )
