@@ -71,6 +71,9 @@ goodbyeRules d =
 abbrev pub liveRules : Said → List Bool
 liveRules d = leb 1 (length (d .category)) ∷ leb 1 (length (d .number)) ∷ []
 
+abbrev pub timelyOf : Said → Bool
+timelyOf d = pick (eqb (d .seconds) 0) (all (goodbyeRules d)) (all (liveRules d))
+
 -- a chassis is an address of six octets (L3)
 abbrev pub rules : Said → List Bool
 rules d =
@@ -80,7 +83,7 @@ rules d =
     ∷ all (stringRules d)
     ∷ linkSound (d .link)
     ∷ listSound (d .list)
-    ∷ pick (eqb (d .seconds) 0) (all (goodbyeRules d)) (all (liveRules d))
+    ∷ timelyOf d
     ∷ []
 
 unfoldable pub soundOf : Said → Bool

@@ -18,22 +18,29 @@ pub enum Written {
     Refused(u8),
 }
 
+// The most octets of an LLDPDU, and the refusals (R9, R10).
+const LONGEST: usize = 1500;
+
+const BREAKS_A_RULE: u8 = 9;
+
+const NO_ROOM: u8 = 10;
+
 // Writes the LLDPDU of a description to the front of out (W1, W4); 9 goes before 10 (R11).
 pub fn write(d: Description, text: &[u8], out: &mut [u8]) -> Written
     ensures { λ r. ⌜ Writes (now (text .entry)) d (now (out .entry)) r (now (out .exit)) ⌝ }
 {
     if !all_inside(text.len(), d) {
-        return Written::Refused(9);
+        return Written::Refused(BREAKS_A_RULE);
     }
     if !is_sound(text, d) {
-        return Written::Refused(9);
+        return Written::Refused(BREAKS_A_RULE);
     }
     let size = size_of(text, d);
-    if size > 1500 {
-        return Written::Refused(9);
+    if size > LONGEST {
+        return Written::Refused(BREAKS_A_RULE);
     }
     if size > out.len() {
-        return Written::Refused(10);
+        return Written::Refused(NO_ROOM);
     }
     put_lldpdu(text, d, out);
     Written::Octets(size)

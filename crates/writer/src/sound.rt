@@ -7,7 +7,7 @@ ghost use lib.Dec.{eqb};
 ghost use Rattle.tally.specs.Tests.{all};
 ghost use Rattle.lldpdu.specs.Outline.{textOf};
 ghost use Rattle.reader.specs.Meaning.{linkMeant, listMeant, saidBy};
-ghost use Rattle.writer.specs.Rules.{portSound, wordsSound, stringRules, tableSound, linkSound, listedSound, listSound, noLink, noList, goodbyeRules, liveRules, soundOf};
+ghost use Rattle.writer.specs.Rules.{portSound, wordsSound, stringRules, tableSound, linkSound, listedSound, listSound, noLink, noList, goodbyeRules, liveRules, timelyOf, soundOf};
 use fields::Field;
 use fields::field_of;
 use lldpdu::Part;
@@ -190,6 +190,17 @@ fn live_sound(text: &[u8], d: Description) -> bool
     count_of(text, d.number) >= 1
 }
 
+// What must be there, or must not, by the seconds (W2, W3).
+fn is_timely(text: &[u8], d: Description) -> bool
+    ensures { λ r. ⌜ r ≡ timelyOf (saidBy (now (text .entry)) d) ⌝ }
+{
+    if d.seconds == 0 {
+        goodbye_sound(text, d)
+    } else {
+        live_sound(text, d)
+    }
+}
+
 pub(crate) fn is_sound(text: &[u8], d: Description) -> bool
     ensures { λ r. ⌜ r ≡ soundOf (saidBy (now (text .entry)) d) ⌝ }
 {
@@ -214,8 +225,5 @@ pub(crate) fn is_sound(text: &[u8], d: Description) -> bool
     if !list_sound(text, list) {
         return false;
     }
-    if d.seconds == 0 {
-        return goodbye_sound(text, d);
-    }
-    live_sound(text, d)
+    is_timely(text, d)
 }

@@ -1,10 +1,10 @@
 -- `writer::inside::all_inside` meets its contract: the eight parts, front to back.
 -- One test that fails decides (all-fails of TestsLaws); where all pass, the last return cites them.
-use Rattle.tally.proofs.TestsLaws.{all-fails, both-end}
-use Rattle.writer.specs.Rules.{partRules, listInside, allInside}
 use mathlib.Core.Path.{sym, _∙_}
 use borrow.Author.Tests.{not-true, not-false}
 use borrow.Author.Needs.{needs}
+use Rattle.tally.proofs.TestsLaws.{all-fails, both-end}
+use Rattle.writer.specs.Rules.{partRules, listInside, allInside}
 use Rattle.writer.proofs.inside.all_inside.Statement.{statement}
 use Rattle.writer.proofs.inside.all_inside.Tie as tie
 

@@ -1,12 +1,12 @@
 -- `writer::sound::goodbye_sound` meets its contract: seven absences, front to back.
 -- One test that fails decides (all-fails of TestsLaws); where all pass, the last return cites them.
-use Rattle.tally.proofs.TestsLaws.{all-fails, both-end}
-use Rattle.writer.specs.Rules.{goodbyeRules, noList}
-use Rattle.reader.specs.Meaning.{saidBy, listMeant}
 use mathlib.Core.Path.{sym, _∙_}
 use denote.Ref.{now}
 use borrow.Author.Tests.{eq-eqb, ne-eqb, not-true, not-false}
 use borrow.Author.Needs.{needs}
+use Rattle.tally.proofs.TestsLaws.{all-fails, both-end}
+use Rattle.writer.specs.Rules.{goodbyeRules, noList}
+use Rattle.reader.specs.Meaning.{saidBy, listMeant}
 use Rattle.writer.proofs.RulesLaws.{no-link-same, no-list-same}
 use Rattle.writer.proofs.sound.goodbye_sound.Statement.{statement}
 use Rattle.writer.proofs.sound.goodbye_sound.Tie as tie
@@ -46,31 +46,9 @@ no-link-requires c κs = search needs
 
 returns-6 : tie.Need-returns-6
 returns-6 c =
-    let c1 = c .before in
-    let c2 = c1 .before in
-    let c3 = c2 .before in
-    let c4 = c3 .before in
-    let c5 = c4 .before in
-    let c6 = c5 .before in
-    let c7 = c6 .before in
-    let c8 = c7 .before in
-    let c9 = c8 .before in
-    let c10 = c9 .before in
-    let c11 = c10 .before in
-    let c12 = c11 .before .before in
-    rw (
-      ← c11 .count-of .ensures,
-      ← c9 .count-of2 .ensures,
-      ← c7 .count-of3 .ensures,
-      ← c5 .count-of4 .ensures,
-      ← c3 .count-of5 .ensures,
-      eq-eqb (c11 .count-of .result) 0 (c10 .if1 .left),
-      eq-eqb (c9 .count-of2 .result) 0 (c8 .if2 .left),
-      eq-eqb (c7 .count-of3 .result) 0 (c6 .if3 .left),
-      eq-eqb (c5 .count-of4 .result) 0 (c4 .if4 .left),
-      eq-eqb (c3 .count-of5 .result) 0 (c2 .if5 .left),
-      sym (no-link-same (now (c12 .args .text)) (c12 .args .d .link)) ∙ sym (c1 .no-link .ensures) ∙ not-true (c1 .no-link .result) (c .if6 .taken),
-    )
+    let s = now (c .before .before .before .before .before .before .before .before .before .before .before .before .before .args .text) in
+    let d = c .before .before .before .before .before .before .before .before .before .before .before .before .before .args .d in
+    sym (all-fails (goodbyeRules (saidBy s d)) 5 (sym (no-link-same s (d .link)) ∙ sym (c .before .no-link .ensures) ∙ not-true _ (c .if6 .taken)))
 
 no-list-requires : tie.Need-no-list-requires
 no-list-requires c κs = search needs
