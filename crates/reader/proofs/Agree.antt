@@ -1,4 +1,4 @@
--- The answers agree with each other: the outline with the reading, a frame with its LLDPDU (A5), and naming with both in its refusals.
+-- The answers agree with each other: the outline with the reading, and a frame with its LLDPDU (A5).
 -- They hold for every LLDPDU, valid or not, and for every header that fits.
 use Prim.Native.Nat.{ℕ, _+_, _≤_}
 use mathlib.Core.Path.{_≡_, refl, ap, _∙_}
@@ -11,13 +11,9 @@ use lib.Seq.{drop-at}
 use lib.Dec.{leb, eqb}
 use Rattle.tally.proofs.TestsLaws.{held}
 use Rattle.octets.specs.Address.{sixAt}
-use Rattle.tally.specs.Tests.{pick, both}
-use Rattle.fields.specs.Link.{namesOf}
-use Rattle.lldpdu.specs.Walk.{Placed}
-use Rattle.lldpdu.specs.Extent.{refusalIn, restOf, extentOf}
+use Rattle.lldpdu.specs.Extent.{extentOf}
 use Rattle.lldpdu.specs.Outline.{outlineAt, outlineOf}
 use Rattle.reader.specs.Reading.{readingAt, readingOf}
-use Rattle.reader.specs.Naming.{refusalOf, isLinkIn, numbersIn, firstNaming, namingAt, namingOf}
 use Rattle.reader.specs.Frame.{destinationOk, frameOk, onFrame}
 use Rattle.reader.proofs.FrameLaws.{on-good}
 use Rattle.lldpdu.specs.declared.extent.Extent.{Extent}
@@ -72,21 +68,3 @@ module _ (h s : List ℕ) (l : length h ≡ 14) (o : frameOk h ≡ true) (m : le
 
   pub frame-agrees : {A : Type 0} (three : A) (answer : List ℕ → A) → onFrame three answer (h ++ s) ≡ answer s
   frame-agrees three answer = on-good three answer (h ++ s) header-fits ∙ ap answer (drop-at h s 14 l)
-
--- who sees an address is refused exactly as the LLDPDU is, with the same number
-unrefused : (a : List ℕ) (ps : List Placed) → refusalOf (firstNaming a ps) ≡ 0
-unfolding firstNaming numbersIn
-unrefused a [] = refl
-unrefused a (p ∷ ps) = go (both (isLinkIn (p .tlv .kind) (p .tlv .body)) (namesOf (p .tlv .body) a)) (unrefused a ps)
-  where
-    go : (b : Bool) → refusalOf (firstNaming a ps) ≡ 0 → refusalOf (pick b (numbersIn (p .tlv .body)) (firstNaming a ps)) ≡ 0
-    go true ih = refl
-    go false ih = ih
-
-pub naming-agrees : (s a : List ℕ) → refusalOf (namingOf s a) ≡ refusalIn (extentOf s)
-unfolding namingOf
-naming-agrees s a = go (extentOf s)
-  where
-    go : (x : Extent) → refusalOf (namingAt x s a) ≡ refusalIn x
-    go (Refused n) = refl
-    go (Octets e) = unrefused a (restOf s .tlvs)

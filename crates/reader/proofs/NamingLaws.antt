@@ -1,21 +1,32 @@
 -- Laws of who sees an address: one step of the walk in the shape of the loop, and what a well formed link information lends.
 -- The loop cites naming-hit, naming-miss and naming-other with the information string as it has it.
-use Prim.Native.Nat.{ℕ, _+_, _-_, _≤_}
-use mathlib.Core.Path.{_≡_, ap, _∙_}
-use mathlib.Core.List.{List}
+use Prim.Native.Nat.{ℕ, _+_, _-_, _*_, _≤_}
+use mathlib.Core.Path.{_≡_, refl, sym, ap, _∙_, fun-ext}
+use mathlib.Core.List.{List, [], _∷_, map}
+use mathlib.Core.Option.{Option}
 use mathlib.Core.Bool.{Bool, true, false}
 use native.Mathlib.Omega.{arith}
-use borrow.Author.Tests.{eqb-true}
+use borrow.Author.Tests.{eqb-true, eqb-false, eq-eqb, ne-eqb}
 use lib.ListN.{length, take, drop, getD}
+use lib.Seq.{drop-drop, getD-drop}
+use lib.Dec.{eqb}
 use Rattle.tally.specs.Tests.{pick, both}
-use Rattle.fields.specs.Link.{linkOk, namesOf}
+use Rattle.tally.specs.Ranges as ranges
+use Rattle.octets.specs.Address.{sixAt, sameOctets}
+use Rattle.fields.specs.Link.{typeCount, numberCount, linkOk, namesOf}
 use Rattle.fields.specs.Field.{link, fieldOf}
 use Rattle.fields.specs.declared.Field.{Field}
 use Rattle.fields.specs.declared.Field.the-variants.{Skipped, Malformed, Says}
 use Rattle.fields.proofs.LinkLaws.{link-has}
 use Rattle.fields.proofs.FieldLaws.{Fits, field-fits}
-use Rattle.lldpdu.specs.Walk.{headOf, stepOf, Walked, walk}
-use Rattle.reader.specs.Naming.{isLink, isLinkIn, numberIn, numbersIn, Numbered, firstNaming}
+use Rattle.lldpdu.specs.Walk.{Placed, headOf, stepOf, Walked, walk}
+use Rattle.lldpdu.specs.Extent.{refusalIn, restOf, extentOf}
+use Rattle.lldpdu.specs.declared.extent.Extent.{Extent}
+use Rattle.lldpdu.specs.declared.extent.Extent.the-variants.{Refused, Octets}
+use Rattle.reader.specs.Meaning.{onField, contents}
+use Rattle.reader.specs.Naming.{refusalOf, numbersOf, isLink, isLinkIn, numberIn, numbersIn, Numbered, firstNaming, namingAt, namingOf, seenBy, firstSeen, seenAt, Names}
+use Rattle.reader.specs.declared.naming.Number.{Number}
+use Rattle.reader.specs.declared.naming.Naming.{Naming}
 use Rattle.lldpdu.proofs.WalkLaws.{walk-refused, walk-end, walk-next}
 use Rattle.lldpdu.specs.declared.walk.Step.the-variants as step
 use Rattle.reader.specs.declared.naming.Naming.the-variants.{Nowhere, Link}
@@ -69,3 +80,96 @@ module _ (s : List ℕ) (at : ℕ) (a : List ℕ) where
 
       pub naming-miss : isLinkIn kind b ≡ true → namesOf b a ≡ false → firstNaming a (walk (drop at s) 0 at .tlvs) ≡ firstNaming a (walk (drop (start + len) s) 0 (start + len) .tlvs)
       naming-miss i n = naming-next ∙ rw (← p, i, n)
+
+-- What the answer says
+
+-- it is refused exactly as the LLDPDU is, with the same number
+unrefused : (a : List ℕ) (ps : List Placed) → refusalOf (firstNaming a ps) ≡ 0
+unfolding firstNaming numbersIn
+unrefused a [] = refl
+unrefused a (p ∷ ps) = go (both (isLinkIn (p .tlv .kind) (p .tlv .body)) (namesOf (p .tlv .body) a)) (unrefused a ps)
+  where
+    go : (b : Bool) → refusalOf (firstNaming a ps) ≡ 0 → refusalOf (pick b (numbersIn (p .tlv .body)) (firstNaming a ps)) ≡ 0
+    go true ih = refl
+    go false ih = ih
+
+pub naming-refusal : (s a : List ℕ) → refusalOf (namingOf s a) ≡ refusalIn (extentOf s)
+unfolding namingOf
+naming-refusal s a = go (extentOf s)
+  where
+    go : (x : Extent) → refusalOf (namingAt x s a) ≡ refusalIn x
+    go (Refused n) = refl
+    go (Octets e) = unrefused a (restOf s .tlvs)
+
+-- the content of a link information names what the information string names, and has its numbers
+module _ (b a : List ℕ) where
+  place : (i j : ℕ) → 4 + i ≡ j → getD (drop 4 b) i 0 ≡ getD b j 0
+  place i j q = getD-drop 4 b i 0 ∙ ap (λ (k : ℕ). getD b k 0) q
+
+  six-place : (i j : ℕ) → 4 + i ≡ j → sixAt (drop 4 b) i ≡ sixAt b j
+  unfolding sixAt
+  six-place i j q =
+      rw (
+        place i j q,
+        place (i + 1) (j + 1) (omega arith),
+        place (i + 2) (j + 2) (omega arith),
+        place (i + 3) (j + 3) (omega arith),
+        place (i + 4) (j + 4) (omega arith),
+        place (i + 5) (j + 5) (omega arith),
+      )
+
+  names-content : (n m : ℕ) → ranges.some (λ i. sameOctets (sixAt (drop 4 b) (3 + n + m + 6 * i)) a) ≡ ranges.some (λ i. sameOctets (sixAt b (7 + n + m + 6 * i)) a)
+  names-content n m = ap ranges.some (fun-ext (λ i. ap (λ (x : List ℕ). sameOctets x a) (six-place (3 + n + m + 6 * i) (7 + n + m + 6 * i) (omega arith))))
+
+  seen-content : (more : Option (Number × Number))
+      → seenBy a (drop 4 b) (getD (drop 4 b) 0 0) (getD (drop 4 b) (1 + getD (drop 4 b) 0 0) 0) more
+      ≡ pick (namesOf b a) (numbersOf (numbersIn b)) more
+  unfolding namesOf numbersIn
+  seen-content more =
+      let n = typeCount b in
+      let m = numberCount b in
+      let from : (i j : ℕ) → 4 + i ≡ j → drop i (drop 4 b) ≡ drop j b = λ i j q. drop-drop i 4 b ∙ ap (λ (k : ℕ). drop k b) q in
+      rw (
+        place 0 4 refl,
+        place (1 + n) (5 + n) (omega arith),
+        place (2 + n + m) (6 + n + m) (omega arith),
+        names-content n m,
+        from 1 5 refl,
+        from (2 + n) (6 + n) (omega arith),
+      )
+
+-- one TLV in front of the others
+field-seen : (a b : List ℕ) (x : Field) (rest : Naming) (cs : List (List ℕ)) → Fits b x → numbersOf rest ≡ firstSeen a cs
+    → numbersOf (pick (both (isLink x) (namesOf b a)) (numbersIn b) rest) ≡ firstSeen a (onField x link b cs)
+unfolding firstSeen
+field-seen a b Skipped rest cs h ih = ih
+field-seen a b Malformed rest cs h ih = ih
+field-seen a b (Says topic skip) rest cs h ih = go (eqb topic link) refl
+  where
+    go : (t : Bool) → eqb topic link ≡ t → numbersOf (pick (both t (namesOf b a)) (numbersIn b) rest) ≡ firstSeen a (pick (eqb link topic) (drop skip b ∷ cs) cs)
+    go true e =
+        let q = eqb-true topic link e in
+        rw (eq-eqb link topic (sym q), h .linked q .1, seen-content b a (firstSeen a cs), ← ih) (inner (namesOf b a))
+      where
+        inner : (t : Bool) → numbersOf (pick t (numbersIn b) rest) ≡ pick t (numbersOf (numbersIn b)) (numbersOf rest)
+        inner true = refl
+        inner false = refl
+    go false e = rw (ne-eqb link topic (λ q. eqb-false topic link e (sym q))) ih
+
+naming-seen : (a : List ℕ) (ps : List Placed) → numbersOf (firstNaming a ps) ≡ firstSeen a (contents link (map (λ p. p .tlv) ps))
+unfolding firstNaming contents firstSeen
+naming-seen a [] = refl
+naming-seen a (p ∷ ps) =
+    field-seen a (p .tlv .body) (fieldOf (p .tlv .kind) (p .tlv .body)) (firstNaming a ps) (contents link (map (λ q. q .tlv) ps)) (field-fits (p .tlv .body) (p .tlv .kind)) (naming-seen a ps)
+
+pub naming-numbers : (s a : List ℕ) → numbersOf (namingOf s a) ≡ seenAt (extentOf s) s a
+unfolding namingOf
+naming-numbers s a = go (extentOf s)
+  where
+    go : (x : Extent) → numbersOf (namingAt x s a) ≡ seenAt x s a
+    go (Refused n) = refl
+    go (Octets e) = naming-seen a (restOf s .tlvs)
+
+-- the one answer says what it should
+pub names-exactly : (s a : List ℕ) {r : Naming} → r ≡ namingOf s a → Names s a r
+names-exactly s a e = record { exact = e; refusal = ap refusalOf e ∙ naming-refusal s a; numbers = ap numbersOf e ∙ naming-numbers s a }

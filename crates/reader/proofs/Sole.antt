@@ -21,4 +21,4 @@ pub read-frame-sole : Sole 1 read-frame-kinds.ps read-frame-kinds.r read-frame.P
 read-frame-sole κs a r q x y e f = e .exact ∙ sym (f .exact)
 
 pub link-naming-sole : Sole 1 link-naming-kinds.ps link-naming-kinds.r link-naming.Post
-link-naming-sole κs a r q x y e f = e ∙ sym f
+link-naming-sole κs a r q x y e f = e .exact ∙ sym (f .exact)

@@ -4,7 +4,7 @@ ghost use mathlib.Core.Path.{_≡_};
 ghost use Prim.Native.Nat.{_≤_};
 ghost use lib.ListN.{length, drop};
 ghost use Rattle.lldpdu.specs.Walk.{walk};
-ghost use Rattle.reader.specs.Naming.{isLinkIn, numberIn, numbersIn, Numbered, firstNaming, namingOf};
+ghost use Rattle.reader.specs.Naming.{isLinkIn, numberIn, numbersIn, Numbered, firstNaming, Names};
 use fields::Field;
 use fields::field_of;
 use fields::names;
@@ -89,7 +89,7 @@ fn naming_from(s: &[u8], from: usize, address: [u8; 6]) -> Naming
 }
 
 pub fn link_naming(s: &[u8], address: [u8; 6]) -> Naming
-    ensures { λ r. ⌜ r ≡ namingOf (now (s .entry)) address ⌝ }
+    ensures { λ r. ⌜ Names (now (s .entry)) address r ⌝ }
 {
     match extent_of(s) {
         Extent::Refused(n) => Naming::Refused(n),

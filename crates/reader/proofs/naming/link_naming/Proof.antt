@@ -9,6 +9,7 @@ use lib.ListN.{drop}
 use Rattle.reader.specs.Naming.{firstNaming, namingOf}
 use Rattle.lldpdu.specs.Walk.{walk}
 use Rattle.lldpdu.proofs.ExtentLaws.{good, good-port}
+use Rattle.reader.proofs.NamingLaws.{names-exactly}
 use Rattle.reader.proofs.naming.link_naming.Statement.{statement}
 use Rattle.reader.proofs.naming.link_naming.Tie as tie
 
@@ -32,15 +33,20 @@ naming-from-requires c κs = search needs
 
 returns : tie.Need-returns
 unfolding namingOf
-returns c = sym (rw (sym (c .before .before .before .extent-of .ensures) ∙ c .before .n .given .1))
+returns c =
+    let s = now (c .before .before .before .before .before .args .s) in
+    let a = c .before .before .before .before .before .args .address in
+    names-exactly s a (sym (rw (sym (c .before .before .before .extent-of .ensures) ∙ c .before .n .given .1)))
 
 returns-2 : tie.Need-returns-2
 unfolding namingOf
 returns-2 c =
     let s = now (c .before .before .before .before .before .before .args .s) in
-    c .naming-from .ensures
-    ∙ ap (λ (p : ℕ). firstNaming (c .before .before .before .before .before .before .args .address) (walk (drop (15 + p) s) 0 (15 + p) .tlvs)) (c .before .port-length .ensures)
-    ∙ sym (rw (sym (c .before .before .before .before .extent-of .ensures) ∙ c .before .before .enum-told .given .1))
+    let a = c .before .before .before .before .before .before .args .address in
+    names-exactly s a
+    (c .naming-from .ensures
+    ∙ ap (λ (p : ℕ). firstNaming a (walk (drop (15 + p) s) 0 (15 + p) .tlvs)) (c .before .port-length .ensures)
+    ∙ sym (rw (sym (c .before .before .before .before .extent-of .ensures) ∙ c .before .before .enum-told .given .1)))
 
 pub link-naming-spec : {M : Type 1} → statement M
 link-naming-spec =
