@@ -1,7 +1,7 @@
 -- Laws of addresses: the test for sameness says what it should, and what the loop over six octets cites.
 -- `same-equal` and `same-refl` pass between the test and equality.
 use Prim.Native.Nat.{ℕ, _+_, _<_, _≤_}
-use mathlib.Core.Path.{_≡_, refl, ap₂}
+use mathlib.Core.Path.{_≡_, refl, ap, ap₂}
 use mathlib.Core.List.{List, [], _∷_}
 use mathlib.Core.Bool.{Bool, true, false}
 use native.Mathlib.Omega.{arith}
@@ -27,6 +27,13 @@ same-equal (x ∷ a) [] e = let z : _≡_ {A = Bool} false true = e in cc
 same-equal (x ∷ a) (y ∷ b) e =
     let p = both-true (eqb x y) (sameOctets a b) e in
     ap₂ (λ (u : ℕ) (l : List ℕ). u ∷ l) (eqb-true x y (p .0)) (same-equal a b (p .1))
+
+pub same-lengths : (a b : List ℕ) → (length a ≡ length b → ⊥) → sameOctets a b ≡ false
+same-lengths a b d = go (sameOctets a b) refl
+  where
+    go : (t : Bool) → sameOctets a b ≡ t → t ≡ false
+    go true e = absurd (d (ap (λ (l : List ℕ). length l) (same-equal a b e)))
+    go false e = refl
 
 -- the loop over two strings: one octet of each, and the end
 module _ (a b : List ℕ) (i : ℕ) where

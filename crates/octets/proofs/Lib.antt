@@ -4,4 +4,5 @@ pub mod HeaderLaws
 pub mod NumbersLaws
 pub mod AddressLaws
 pub mod PartLaws
+pub mod WholeLaws
 pub mod Sole

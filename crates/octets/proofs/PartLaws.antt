@@ -1,12 +1,13 @@
--- Laws of parts of a text: a part as a callee has it, and a part of a part.
+-- Laws of parts of a text: a part as a callee has it, a part of a part, and a part that is lent and comes back changed.
 -- They hold for any text, any start and any length.
 use Prim.Native.Nat.{ℕ, zero, suc, _+_, _-_, _<_, _≤_}
 use mathlib.Core.Path.{_≡_, sym, ap, ap₂, _∙_}
-use mathlib.Core.List.{List, [], _∷_}
+use mathlib.Core.List.{List, [], _∷_, _++_, append-nil}
 use native.Mathlib.Omega.{arith}
 use native.Mathlib.Nat.{add-sub-cancel-left}
+use borrow.Rule.Slice.PartMut.{midOf, putMid, post-is, mid-len}
 use lib.ListN.{length, take, drop, getD, length-drop}
-use lib.Seq.{take-nil, take-all, take-take, drop-drop, getD-take, getD-drop}
+use lib.Seq.{take-nil, take-all, take-take, drop-drop, drop-length, getD-take, getD-drop}
 
 -- &s[a..a + n] and &s[a..]
 pub part-is : (s : List ℕ) (a n : ℕ) → take (a + n - a) (drop a s) ≡ take n (drop a s)
@@ -43,3 +44,23 @@ module _ (s : List ℕ) (a l : ℕ) where
   rest-of-part i n h q =
       let e : l - i ≡ n = omega arith in
       drop-take i l (drop a s) ∙ ap₂ take e (drop-drop i a s ∙ ap (λ (k : ℕ). drop k s) q)
+
+-- &mut xs[a..a + n], and what stands there when it comes back as ys
+module _ (xs : List ℕ) (a n : ℕ) where
+  pub part-back : (ys : List ℕ) → putMid a (a + n - a) xs ys ≡ take a xs ++ (ys ++ drop (a + n) xs)
+  part-back ys = ap (λ (l : List ℕ). take a xs ++ (ys ++ l)) (post-is a (a + n) xs (omega arith))
+
+  pub part-count : a + n ≤ length xs → length (midOf a (a + n - a) xs) ≡ n
+  part-count h = mid-len a (a + n) xs h ∙ add-sub-cancel-left a n
+
+  -- where a callee's contract says it by the part's length alone
+  pub part-becomes : (f : ℕ → List ℕ) (ys : List ℕ) → a + n ≤ length xs → ys ≡ f (length (midOf a (a + n - a) xs))
+      → putMid a (a + n - a) xs ys ≡ take a xs ++ (f n ++ drop (a + n) xs)
+  part-becomes f ys h e = part-back ys ∙ ap (λ (l : List ℕ). take a xs ++ (l ++ drop (a + n) xs)) (e ∙ ap f (part-count h))
+
+-- the same for &mut xs[a..]
+pub rest-becomes : (f : ℕ → List ℕ) (xs ys : List ℕ) (a : ℕ) → a ≤ length xs → ys ≡ f (length (midOf a (length xs - a) xs))
+    → putMid a (length xs - a) xs ys ≡ take a xs ++ f (length xs - a)
+rest-becomes f xs ys a h e =
+    ap (λ (l : List ℕ). take a xs ++ (ys ++ l)) (post-is a (length xs) xs h ∙ drop-length xs)
+    ∙ ap (λ (l : List ℕ). take a xs ++ l) (append-nil ys ∙ e ∙ ap f (mid-len a (length xs) xs (omega arith)))

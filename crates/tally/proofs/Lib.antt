@@ -2,4 +2,5 @@
 -- They are over any test, any range and any contract.
 pub mod TestsLaws
 pub mod RangesLaws
+pub mod CountsLaws
 pub mod Sole

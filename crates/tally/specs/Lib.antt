@@ -1,4 +1,5 @@
--- The definitions of this crate: choosing by a test, and asking a test of every number in a range.
+-- The definitions of this crate: choosing by a test, asking a test of every number in a range, and counting.
 -- Every rule above is written in these words.
 pub mod Tests
 pub mod Ranges
+pub mod Counts
