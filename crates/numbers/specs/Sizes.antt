@@ -1,0 +1,13 @@
+-- The sizes of the table (N1, N12), all from the number of ports.
+-- `ports` is the one number to change; every law is over it.
+use Prim.Native.Nat.{ℕ}
+use Rattle.rules.specs.Shares.{commonFor, placesFor}
+
+abbrev pub ports : ℕ
+ports = 8
+
+abbrev pub places : ℕ
+places = placesFor ports
+
+abbrev pub common : ℕ
+common = commonFor ports

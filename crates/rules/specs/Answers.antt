@@ -1,0 +1,29 @@
+-- The answer to a frame (N7), and the refusal number of each answer.
+-- A goodbye is never refused for room, and neither is a known neighbour.
+use Prim.Native.Nat.{ℕ}
+use mathlib.Core.Bool.{Bool, true, false}
+use Rattle.rules.specs.declared.Room.{Room}
+use Rattle.rules.specs.declared.Room.the-variants.{Enough, Full, Taken}
+use Rattle.rules.specs.declared.Reply.{Reply}
+use Rattle.rules.specs.declared.Reply.the-variants.{Recorded, Refreshed, Gone, UnknownGoodbye, Refused}
+
+-- 0 where it is no refusal
+abbrev pub refusalIn : Reply → ℕ
+refusalIn Recorded = 0
+refusalIn Refreshed = 0
+refusalIn Gone = 0
+refusalIn UnknownGoodbye = 0
+refusalIn (Refused n) = n
+
+-- R7 and R8
+abbrev pub onRoom : Room → Reply
+onRoom Enough = Recorded
+onRoom Full = Refused 7
+onRoom Taken = Refused 8
+
+-- a goodbye? known? and the room for a new one
+abbrev pub answerTo : Bool → Bool → Room → Reply
+answerTo true true r = Gone
+answerTo true false r = UnknownGoodbye
+answerTo false true r = Refreshed
+answerTo false false r = onRoom r
