@@ -2,7 +2,7 @@
 //! The case file and the text that is expected for it are made here.
 
 pub(crate) mod blocks;
-mod maker;
+pub(crate) mod maker;
 mod random;
 mod rules;
 
@@ -72,7 +72,7 @@ pub fn expected(cases: &[Case]) -> String {
     text
 }
 
-fn or_refused<T>(answer: Result<T, Refusal>, text: fn(&T) -> String) -> String {
+pub(crate) fn or_refused<T>(answer: Result<T, Refusal>, text: fn(&T) -> String) -> String {
     match answer {
         Ok(value) => text(&value),
         Err(number) => format!("refused {number}"),

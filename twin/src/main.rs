@@ -7,11 +7,12 @@ use std::fs;
 use std::path::Path;
 use std::process::ExitCode;
 
-use twin::{announcements, frames};
+use twin::{announcements, events, frames};
 
 const USAGE: &str = "\
 usage: twin frames DIR          write the reader's cases to DIR/frames
        twin announcements DIR   write the writer's cases to DIR/announcements
+       twin events DIR          write the table's events to DIR/events
        twin help                show this text
 The text expected for the cases goes to DIR/stdout.";
 
@@ -37,6 +38,11 @@ fn main() -> ExitCode {
                 &announcements::case_file(&cases),
                 &expected,
             )
+        }
+        [Some("events"), _] => {
+            let events = events::events();
+            let expected = events::expected(&events);
+            write_files(&arguments[1], "events", &events::case_file(&events), &expected)
         }
         _ => {
             eprintln!("{USAGE}");

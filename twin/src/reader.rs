@@ -3,7 +3,8 @@
 
 use std::ops::RangeInclusive;
 
-/// A refusal number: 3 to 6 for a frame, 4 to 6 for a bare LLDPDU (A1). The writer's are 9 and 10.
+/// A refusal number: 3 to 6 for a frame, 4 to 6 for a bare LLDPDU (A1). The table adds 1, 2, 7 and
+/// 8, the writer 9 and 10.
 pub type Refusal = u8;
 
 pub type Address = [u8; 6];

@@ -33,7 +33,7 @@ impl Maker {
     }
 
     /// Flips a bit, changes, inserts or deletes an octet, or cuts the rest off.
-    fn damage(&mut self, octets: &mut Vec<u8>) {
+    pub fn damage(&mut self, octets: &mut Vec<u8>) {
         if octets.is_empty() {
             return;
         }
@@ -58,7 +58,13 @@ impl Maker {
         let length = self.rng.between(1, 12);
         let port = tlv(2, &[&[subtype], self.rng.octets(length).as_slice()].concat());
         let seconds = tlv(3, &self.rng.octets(2));
+        let later = self.random_later(&pool, spoilt);
+        let inside = lldpdu(&[chassis, port, seconds], &later);
+        ([inside, self.random_padding()].concat(), self.rng.pick(&pool))
+    }
 
+    /// The TLVs between the third and the End, with addresses of the pool.
+    pub fn random_later(&mut self, pool: &[Address], spoilt: bool) -> Vec<Tlv> {
         let mut later = vec![self.random_device(1, 255), self.random_device(4, 31)];
         if self.rng.once_in(2) {
             later.push(self.random_device(2, 6));
@@ -82,21 +88,27 @@ impl Maker {
             later.push(tlv(kind, &value));
         }
         for _ in 0..self.rng.between(0, 3) {
-            later.push(self.random_link(&pool));
+            later.push(self.random_link(pool));
         }
         for _ in 0..self.rng.between(0, 2) {
-            let members = self.random_members(&pool);
+            let members = self.random_members(pool);
             later.push(list(&members));
         }
         if spoilt {
-            self.spoil(&mut later, &pool);
+            self.spoil(&mut later, pool);
         }
         self.rng.shuffle(&mut later);
+        later
+    }
 
-        let inside = lldpdu(&[chassis, port, seconds], &later);
-        let padded = self.rng.pick(&[0, 0, 1, 5, 30]);
-        let padding = if self.rng.once_in(2) { vec![0; padded] } else { self.rng.octets(padded) };
-        ([inside, padding].concat(), self.rng.pick(&pool))
+    /// What may follow the End (L8).
+    pub fn random_padding(&mut self) -> Vec<u8> {
+        let length = self.rng.pick(&[0, 0, 1, 5, 30]);
+        if self.rng.once_in(2) {
+            vec![0; length]
+        } else {
+            self.rng.octets(length)
+        }
     }
 
     /// The shortest and the longest strings come often.
@@ -115,7 +127,7 @@ impl Maker {
         (0..count).map(|_| self.rng.pick(pool)).collect()
     }
 
-    fn random_link(&mut self, pool: &[Address]) -> Tlv {
+    pub fn random_link(&mut self, pool: &[Address]) -> Tlv {
         let n = self.rng.between(1, 4);
         let m = self.rng.between(1, 4);
         let interface = self.rng.octets(n);

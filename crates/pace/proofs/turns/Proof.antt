@@ -1,0 +1,53 @@
+-- `pace::turns` is proved: its loop ends, and the buffer keeps its length.
+-- Nothing is promised of what it does to the table; the table's own contract says that.
+use Prim.Native.Nat.{_-_, _≤_}
+use mathlib.Core.Path.{_≡_, refl}
+use borrow.Author.Needs.{needs}
+use lib.ListN.{length}
+use Rattle.pace.proofs.turns.Statement.{statement}
+use Rattle.pace.proofs.turns.Tie as tie
+
+abbrev Inv-loop : tie.InvT-loop
+Inv-loop buffer₀ full thousands run₀ i₀ i-end buffer run i = (i ≤ i-end) × (length buffer ≡ length buffer₀)
+
+abbrev μ-loop : tie.MeasureT-loop
+μ-loop buffer₀ full thousands run₀ i₀ i-end buffer run i = i-end - i
+
+mul-i-end : tie.Need-mul-i-end Inv-loop μ-loop
+mul-i-end c = search needs
+
+loop-holds : tie.Need-loop-holds Inv-loop μ-loop
+loop-holds c = (search needs, refl)
+
+turn-requires : tie.Need-turn-requires Inv-loop μ-loop
+turn-requires c κs = search needs
+
+add-i : tie.Need-add-i Inv-loop μ-loop
+add-i c = search needs
+
+loop-less : tie.Need-loop-less Inv-loop μ-loop
+loop-less c = search needs
+
+loop-again : tie.Need-loop-again Inv-loop μ-loop
+loop-again c = search needs
+
+same-length : tie.Need-same-length Inv-loop μ-loop
+same-length c = search needs
+
+returns : tie.Need-returns Inv-loop μ-loop
+returns c = search needs
+
+pub turns-spec : {M : Type 1} → statement M
+turns-spec =
+    tie.close
+    (tie.spec
+    Inv-loop
+    μ-loop
+    mul-i-end
+    loop-holds
+    turn-requires
+    add-i
+    loop-less
+    loop-again
+    same-length
+    returns)

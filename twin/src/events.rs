@@ -1,0 +1,256 @@
+//! The events: the run cases, random sequences of calls on the table, and spoiled tables.
+//! The case file and the text that is expected for it are made here.
+//!
+//! A spoiled table is made in this way. Events have led to a table that is fit, and it is kept.
+//! Edits follow: a number of a place or an octet becomes another one, a place is copied to another
+//! place, or the buffer given has fewer or more octets. Each of the six calls is tried on what that
+//! makes. Then the kept table is taken back, so that many are spoiled after one sequence.
+
+mod bench;
+mod desk;
+mod maker;
+mod random;
+mod spoils;
+
+use crate::reader::Address;
+use desk::Desk;
+use maker::Maker;
+pub use spoils::Way;
+
+#[derive(Clone, Debug, PartialEq, Eq)]
+pub enum Event {
+    Start,
+    Frame {
+        port: usize,
+        frame: Vec<u8>,
+    },
+    Seconds(u16),
+    Lost {
+        port: usize,
+    },
+    HowMany {
+        port: usize,
+    },
+    WhoSees {
+        address: Address,
+        from: usize,
+    },
+    /// From now on the buffer given is the first so many octets of the store.
+    Lend(usize),
+    SetPort {
+        place: usize,
+        port: u8,
+    },
+    SetSeconds {
+        place: usize,
+        seconds: u16,
+    },
+    SetLength {
+        place: usize,
+        length: u16,
+    },
+    SetOctet {
+        at: usize,
+        octet: u8,
+    },
+    CopyPlace {
+        from: usize,
+        to: usize,
+    },
+    Keep,
+    Spoiled(Trial),
+}
+
+/// What the six calls are given on a spoiled table; the kept table is taken back behind them.
+#[derive(Clone, Debug, PartialEq, Eq)]
+pub struct Trial {
+    /// How the table was spoiled. It is not in the file; the tests hold the table against it.
+    pub way: Way,
+    /// The port, and also the start for the one who sees an address.
+    pub number: usize,
+    pub seconds: u16,
+    pub address: Address,
+    pub frame: Vec<u8>,
+}
+
+/// All events, always the same ones.
+pub fn events() -> Vec<Event> {
+    let mut maker = Maker::new();
+    maker.bench();
+    maker.sequences();
+    maker.events
+}
+
+/// The case file. A record has a kind (1 octet), a number (8), a value (2), an address (6) and a
+/// length (2), each with its high octet first, and then so many octets as the length says. What an
+/// event has no use for is 0.
+pub fn case_file(events: &[Event]) -> Vec<u8> {
+    let none = Address::default();
+    let record = |event: &Event| match *event {
+        Event::Start => record(0, 0, 0, none, &[]),
+        Event::Frame { port, ref frame } => record(1, port, 0, none, frame),
+        Event::Seconds(seconds) => record(2, 0, seconds, none, &[]),
+        Event::Lost { port } => record(3, port, 0, none, &[]),
+        Event::HowMany { port } => record(4, port, 0, none, &[]),
+        Event::WhoSees { address, from } => record(5, from, 0, address, &[]),
+        Event::Lend(octets) => record(6, octets, 0, none, &[]),
+        Event::SetPort { place, port } => record(7, place, u16::from(port), none, &[]),
+        Event::SetSeconds { place, seconds } => record(8, place, seconds, none, &[]),
+        Event::SetLength { place, length } => record(9, place, length, none, &[]),
+        Event::SetOctet { at, octet } => record(10, at, u16::from(octet), none, &[]),
+        Event::CopyPlace { from, to } => record(11, from, to as u16, none, &[]),
+        Event::Keep => record(12, 0, 0, none, &[]),
+        Event::Spoiled(Trial { number, seconds, address, ref frame, .. }) => {
+            record(13, number, seconds, address, frame)
+        }
+    };
+    events.iter().flat_map(record).collect()
+}
+
+fn record(kind: u8, number: usize, value: u16, address: Address, octets: &[u8]) -> Vec<u8> {
+    let number = (number as u64).to_be_bytes();
+    let length = u16::try_from(octets.len()).expect("a frame here has at most 2,000 octets");
+    [&[kind], &number[..], &value.to_be_bytes(), &address, &length.to_be_bytes(), octets].concat()
+}
+
+/// The expected text: a line for each call and each spoiled table, with the number of its record
+/// (from 1), the answer and the digest of numbers and buffer. Other records have no line.
+pub fn expected(events: &[Event]) -> String {
+    let mut desk = Desk::new();
+    let mut text = String::new();
+    for (event, number) in events.iter().zip(1..) {
+        if let Some(line) = desk.line(event) {
+            text += &format!("{number} {line}\n");
+        }
+    }
+    text
+}
+
+#[cfg(test)]
+mod tests {
+    use super::*;
+    use crate::table::BUFFER_OCTETS;
+    use std::sync::OnceLock;
+
+    fn stored() -> &'static (Vec<Event>, String) {
+        static STORED: OnceLock<(Vec<Event>, String)> = OnceLock::new();
+        STORED.get_or_init(|| {
+            let events = events();
+            let text = expected(&events);
+            (events, text)
+        })
+    }
+
+    /// The answers in the text, without record numbers and digests.
+    fn answers() -> Vec<String> {
+        let answer = |line: &str| {
+            let words: Vec<_> = line.split(' ').collect();
+            words[1..words.len() - 1].join(" ")
+        };
+        stored().1.lines().map(answer).collect()
+    }
+
+    #[test]
+    fn the_events_are_the_same_each_time() {
+        assert!(events() == stored().0);
+    }
+
+    #[test]
+    fn the_files_have_the_promised_sizes() {
+        let (events, text) = stored();
+        let file = case_file(events).len();
+        let spoiled = events.iter().filter(|event| matches!(event, Event::Spoiled(_))).count();
+        let calls = text.lines().count() - spoiled;
+        println!("{} records, {calls} calls, {spoiled} spoiled tables", events.len());
+        println!("{file} octets of cases, {} octets of text", text.len());
+        assert!(calls >= 3_000);
+        assert!(file <= 2_000_000);
+        assert!(text.len() <= 900_000);
+    }
+
+    /// A rule that hardly ever decides would hardly be compared.
+    #[test]
+    fn no_answer_is_rare() {
+        let answers = answers();
+        let count = |wanted: &dyn Fn(&str) -> bool| answers.iter().filter(|a| wanted(a)).count();
+        let mut counts = vec![("place", count(&|answer| answer.starts_with("place ")))];
+        for whole in ["done", "nobody", "recorded", "refreshed", "gone", "unknown goodbye"] {
+            counts.push((whole, count(&|answer| answer == whole)));
+        }
+        for whole in ["holds 0", "holds 1", "holds 2", "holds 3", "holds 4", "holds 5", "holds 6"] {
+            counts.push((whole, count(&|answer| answer == whole)));
+        }
+        for number in ["1", "2", "3", "4", "5", "6", "7", "8"] {
+            counts.push((number, count(&|answer| answer == format!("refused {number}"))));
+        }
+        println!("{counts:?}");
+        assert!(counts.iter().all(|&(_, count)| count >= 20));
+    }
+
+    /// Everything about a port that is no port: alone, and as the low bits of something greater.
+    #[test]
+    fn no_port_is_missing() {
+        let ports: Vec<usize> = stored()
+            .0
+            .iter()
+            .filter_map(|event| match event {
+                Event::Frame { port, .. } | Event::Lost { port } | Event::HowMany { port } => {
+                    Some(*port)
+                }
+                _ => None,
+            })
+            .collect();
+        for port in [0, 1, 2, 3, 4, 5, 6, 7, 8, 9, 255, 256, 65_536, usize::MAX] {
+            assert!(ports.contains(&port), "port {port}");
+        }
+        assert!(ports.iter().any(|port| *port > 1 << 32 && port % 256 < 8));
+    }
+
+    /// Each table breaks the one condition of N5 that it was spoiled to break.
+    #[test]
+    fn each_table_is_spoiled_in_its_way_alone() {
+        let mut desk = Desk::new();
+        let mut counts = Way::ALL.map(|_| 0);
+        for event in &stored().0 {
+            if let Event::Spoiled(Trial { way, .. }) = event {
+                assert_eq!(desk.table.breaches(desk.buffer()), [way.letter()], "{event:?}");
+                counts[*way as usize] += 1;
+                desk.take_back();
+                assert!(desk.table.breaches(desk.buffer()).is_empty());
+            } else {
+                desk.act(event);
+            }
+        }
+        println!("{counts:?}");
+        assert!(counts.iter().all(|&count| count >= 300));
+    }
+
+    /// All but Start refuse a spoiled table; Start refuses where the length of the buffer is wrong.
+    #[test]
+    fn spoiled_tables_are_refused() {
+        let (events, text) = stored();
+        let trials = events.iter().filter_map(|event| match event {
+            Event::Spoiled(trial) => Some(trial),
+            _ => None,
+        });
+        let lines = text.lines().filter(|line| line.contains(" spoiled "));
+        let five = "refused 1 refused 1 refused 1 refused 1 refused 1";
+        for (trial, line) in trials.zip(lines) {
+            let words: Vec<_> = line.split(' ').collect();
+            assert_eq!(words[2..12].join(" "), five);
+            let start = if trial.way.letter() == 'a' { "refused 1" } else { "done" };
+            assert_eq!(words[13..words.len() - 1].join(" "), start);
+        }
+    }
+
+    #[test]
+    fn the_digest_of_nothing_but_zeros() {
+        // h = 31 h + 1 from 0 on, so often as there are numbers and octets.
+        let mut h: u64 = 0;
+        for _ in 0..3 * 32 + BUFFER_OCTETS {
+            h = (31 * h + 1) % 4_294_967_291;
+        }
+        let mut desk = Desk::new();
+        assert_eq!(desk.line(&Event::Start), Some(format!("done {h}")));
+    }
+}

@@ -1,0 +1,114 @@
+//! The maker gathers events and does each of them at its own desk, so that it knows what it led to.
+//! It has the frame maker's generator, and agents that make themselves known by frames.
+
+use super::desk::Desk;
+use super::Event;
+use crate::frames::blocks::{category, lldpdu, model_number, neighbour, tlv, Tlv};
+use crate::frames::maker::Maker as FrameMaker;
+use crate::reader::Address;
+use crate::rng::Rng;
+use crate::table::PLACES;
+
+/// The seed is fixed, so that the files never change by themselves.
+const SEED: u64 = 0x4E45_4947_4842_5253;
+
+pub struct Maker {
+    pub frames: FrameMaker,
+    pub events: Vec<Event>,
+    pub desk: Desk,
+    /// How many agents were made that nobody had seen before.
+    unseen: u16,
+}
+
+/// Who sends a frame: an identity but for the receiving port (N2).
+#[derive(Clone, Debug, PartialEq, Eq)]
+pub struct Agent {
+    pub chassis: Address,
+    pub subtype: u8,
+    pub port: Vec<u8>,
+}
+
+impl Agent {
+    pub fn announcement(&self, seconds: u16, later: &[Tlv]) -> Vec<u8> {
+        let leading = [
+            tlv(1, &[&[4], &self.chassis[..]].concat()),
+            tlv(2, &[&[self.subtype], &self.port[..]].concat()),
+            tlv(3, &seconds.to_be_bytes()),
+        ];
+        lldpdu(&leading, later)
+    }
+}
+
+impl Maker {
+    pub fn new() -> Self {
+        let frames = FrameMaker { rng: Rng::new(SEED), cases: Vec::new() };
+        Maker { frames, events: Vec::new(), desk: Desk::new(), unseen: 0 }
+    }
+
+    pub fn rng(&mut self) -> &mut Rng {
+        &mut self.frames.rng
+    }
+
+    /// An event that is neither an edit nor a spoiled table.
+    pub fn call(&mut self, event: Event) {
+        self.desk.act(&event);
+        self.events.push(event);
+    }
+
+    /// A frame with a right header.
+    pub fn hear(&mut self, port: usize, lldpdu: Vec<u8>) {
+        let frame = [self.frames.header(), lldpdu].concat();
+        self.call(Event::Frame { port, frame });
+    }
+
+    /// A frame from an agent that was never heard before, of seconds that last.
+    pub fn hear_somebody_new(&mut self, port: usize) {
+        let agent = self.unseen_agent();
+        let seconds = self.rng().between(300, 65_535) as u16;
+        let later = self.light_later();
+        self.hear(port, agent.announcement(seconds, &later));
+    }
+
+    pub fn unseen_agent(&mut self) -> Agent {
+        self.unseen += 1;
+        let [high, low] = self.unseen.to_be_bytes();
+        Agent { chassis: [0x0A, 0, 0, 0, high, low], subtype: 7, port: b"1".to_vec() }
+    }
+
+    /// Nothing, what makes it HTIP, or link information.
+    pub fn light_later(&mut self) -> Vec<Tlv> {
+        match self.rng().below(8) {
+            0..=3 => vec![],
+            4 | 5 => vec![category(), model_number()],
+            _ => {
+                let count = self.rng().between(1, 2);
+                (0..count).map(|_| self.frames.random_link(&addresses())).collect()
+            }
+        }
+    }
+
+    pub fn used_places(&self) -> Vec<usize> {
+        self.desk.table.used().collect()
+    }
+
+    pub fn free_places(&self) -> Vec<usize> {
+        (0..PLACES).filter(|&place| self.desk.table.length[place] == 0).collect()
+    }
+
+    /// One of the list; none where it is empty.
+    pub fn any_of(&mut self, among: &[usize]) -> Option<usize> {
+        (!among.is_empty()).then(|| self.rng().pick(among))
+    }
+
+    /// The agent of a used place.
+    pub fn agent_at(&self, place: usize) -> Agent {
+        let outline = self.desk.table.outline(self.desk.buffer(), place);
+        let outline = outline.expect("the desk's table is fit");
+        Agent { chassis: outline.chassis, subtype: outline.port_subtype, port: outline.port }
+    }
+}
+
+/// The addresses that link information names.
+pub fn addresses() -> Vec<Address> {
+    (1..=6).map(neighbour).collect()
+}

@@ -1,0 +1,352 @@
+//! Spoiled tables: from each kept table several in every way that fitness names (N5).
+//! Edits are proposed at random; those are taken that break the one condition they are meant for.
+
+use super::desk::STORE_OCTETS;
+use super::maker::{addresses, Maker};
+use super::{Event, Trial};
+use crate::reader::outline_lldpdu;
+use crate::table::{octets_of, BUFFER_OCTETS, COMMON, MOST, PLACE_OCTETS, PORTS, SURE};
+
+/// How often a proposal is made before a kept table is given up.
+const PROPOSALS: usize = 80;
+
+#[derive(Clone, Copy, Debug, PartialEq, Eq)]
+pub enum Way {
+    ShorterBuffer,
+    LongerBuffer,
+    EmptyBuffer,
+    FreePort,
+    FreeSeconds,
+    FreeOctet,
+    PortAboveSeven,
+    LengthAbove1500,
+    AnotherLength,
+    InvalidLldpdu,
+    OctetBehind,
+    NoSecondsLeft,
+    TooManySecondsLeft,
+    IdentityTwice,
+    SevenOnAPort,
+    SeventeenBeyondTwo,
+}
+
+impl Way {
+    pub const ALL: [Way; 16] = [
+        Way::ShorterBuffer,
+        Way::LongerBuffer,
+        Way::EmptyBuffer,
+        Way::FreePort,
+        Way::FreeSeconds,
+        Way::FreeOctet,
+        Way::PortAboveSeven,
+        Way::LengthAbove1500,
+        Way::AnotherLength,
+        Way::InvalidLldpdu,
+        Way::OctetBehind,
+        Way::NoSecondsLeft,
+        Way::TooManySecondsLeft,
+        Way::IdentityTwice,
+        Way::SevenOnAPort,
+        Way::SeventeenBeyondTwo,
+    ];
+
+    /// The condition of N5 that is broken.
+    pub fn letter(self) -> char {
+        match self {
+            Way::ShorterBuffer | Way::LongerBuffer | Way::EmptyBuffer => 'a',
+            Way::FreePort | Way::FreeSeconds | Way::FreeOctet => 'b',
+            Way::PortAboveSeven
+            | Way::LengthAbove1500
+            | Way::AnotherLength
+            | Way::InvalidLldpdu
+            | Way::OctetBehind
+            | Way::NoSecondsLeft
+            | Way::TooManySecondsLeft => 'c',
+            Way::IdentityTwice => 'd',
+            Way::SevenOnAPort => 'e',
+            Way::SeventeenBeyondTwo => 'f',
+        }
+    }
+
+    /// How many tables are spoiled in this way after a sequence. The last two ways need a port with
+    /// six, or the sixteen taken, which not all sequences end with.
+    fn tables(self) -> usize {
+        match self {
+            Way::SevenOnAPort => 8,
+            Way::SeventeenBeyondTwo => 15,
+            _ => 5,
+        }
+    }
+}
+
+impl Maker {
+    /// The table as it is now is kept, and spoiled in each way.
+    pub fn spoils(&mut self) {
+        self.call(Event::Keep);
+        for way in Way::ALL {
+            for _ in 0..way.tables() {
+                if let Some(edits) = self.edits(way) {
+                    let trial = self.trial(way);
+                    self.events.extend(edits);
+                    self.events.push(Event::Spoiled(trial));
+                }
+            }
+        }
+    }
+
+    /// Edits that break the condition of the way and no other; none where they are not found.
+    fn edits(&mut self, way: Way) -> Option<Vec<Event>> {
+        (0..PROPOSALS).find_map(|_| {
+            let edits = self.proposal(way)?;
+            let mut desk = self.desk.clone();
+            for edit in &edits {
+                desk.act(edit);
+            }
+            (desk.table.breaches(desk.buffer()) == [way.letter()]).then_some(edits)
+        })
+    }
+
+    /// Nothing may hide behind a wrong port, a damaged frame or a start past the last place (R11).
+    fn trial(&mut self, way: Way) -> Trial {
+        let number = match self.rng().below(6) {
+            0 => self.random_port(&[8]),
+            1 => self.random_start(),
+            _ => self.rng().below(PORTS),
+        };
+        let used = self.used_places();
+        let agent = match self.any_of(&used) {
+            Some(place) if self.rng().once_in(2) => self.agent_at(place),
+            _ => self.unseen_agent(),
+        };
+        let seconds = self.rng().pick(&[0, 1, 120, 65_535]);
+        let mut frame = [self.frames.header(), agent.announcement(seconds, &[])].concat();
+        if self.rng().once_in(6) {
+            frame = self.damaged(frame);
+        }
+        Trial {
+            way,
+            number,
+            seconds: self.random_seconds_passed(),
+            address: self.rng().pick(&addresses()),
+            frame,
+        }
+    }
+
+    fn proposal(&mut self, way: Way) -> Option<Vec<Event>> {
+        match way {
+            Way::ShorterBuffer => {
+                let some = self.rng().between(1, BUFFER_OCTETS - 1);
+                let octets = self.rng().pick(&[1, 1_500, 24_000, 46_500, 47_999, some]);
+                Some(vec![Event::Lend(octets)])
+            }
+            Way::LongerBuffer => Some(self.longer_buffer()),
+            Way::EmptyBuffer => Some(vec![Event::Lend(0)]),
+            Way::FreePort => {
+                let place = self.any_free()?;
+                let some = self.rng().between(1, 255) as u8;
+                Some(vec![Event::SetPort { place, port: self.rng().pick(&[1, 7, 8, 255, some]) }])
+            }
+            Way::FreeSeconds => {
+                let place = self.any_free()?;
+                let some = self.rng().between(1, 65_535) as u16;
+                let seconds = self.rng().pick(&[1, 120, 65_535, some]);
+                Some(vec![Event::SetSeconds { place, seconds }])
+            }
+            Way::FreeOctet => self.free_octet(),
+            Way::PortAboveSeven => {
+                let place = self.any_used()?;
+                let low = self.desk.table.port[place];
+                let some = self.rng().between(8, 255) as u8;
+                let port = self.rng().pick(&[8, 9, 255, low | 8, low | 128, some]);
+                Some(vec![Event::SetPort { place, port }])
+            }
+            Way::LengthAbove1500 => self.length_above_1500(),
+            Way::AnotherLength => self.another_length(),
+            Way::InvalidLldpdu => self.invalid_lldpdu(),
+            Way::OctetBehind => {
+                let place = self.any_used()?;
+                let length = usize::from(self.desk.table.length[place]);
+                let some = self.rng().between(length.min(PLACE_OCTETS - 1), PLACE_OCTETS - 1);
+                let behind = self.rng().pick(&[length, some, PLACE_OCTETS - 1]);
+                Some(vec![self.octet_becomes(octets_of(place).start + behind)])
+            }
+            Way::NoSecondsLeft => {
+                let place = self.any_used()?;
+                Some(vec![Event::SetSeconds { place, seconds: 0 }])
+            }
+            Way::TooManySecondsLeft => self.too_many_seconds_left(),
+            Way::IdentityTwice => self.identity_twice(),
+            Way::SevenOnAPort => {
+                let ports = self.ports_holding(MOST, MOST);
+                self.one_more_on(&ports)
+            }
+            Way::SeventeenBeyondTwo => {
+                if self.desk.table.common_taken() < COMMON {
+                    return None;
+                }
+                let ports = self.ports_holding(SURE, MOST - 1);
+                self.one_more_on(&ports)
+            }
+        }
+    }
+
+    fn any_free(&mut self) -> Option<usize> {
+        let free = self.free_places();
+        self.any_of(&free)
+    }
+
+    fn any_used(&mut self) -> Option<usize> {
+        let used = self.used_places();
+        self.any_of(&used)
+    }
+
+    /// An octet becomes one that is not 0.
+    fn octet_becomes(&mut self, at: usize) -> Event {
+        let some = self.rng().between(1, 255) as u8;
+        Event::SetOctet { at, octet: self.rng().pick(&[1, 0x80, 0xFF, some]) }
+    }
+
+    /// More octets, zeros or with one that is not.
+    fn longer_buffer(&mut self) -> Vec<Event> {
+        let some = self.rng().between(BUFFER_OCTETS + 1, STORE_OCTETS);
+        let octets = self.rng().pick(&[48_001, 48_002, 49_500, STORE_OCTETS, some]);
+        let lend = Event::Lend(octets);
+        if self.rng().once_in(2) {
+            return vec![lend];
+        }
+        let at = self.rng().between(BUFFER_OCTETS, octets - 1);
+        vec![self.octet_becomes(at), lend]
+    }
+
+    /// An octet of a free place, or a place whose numbers alone become free.
+    fn free_octet(&mut self) -> Option<Vec<Event>> {
+        if self.rng().once_in(4) {
+            let place = self.any_used()?;
+            return Some(vec![
+                Event::SetPort { place, port: 0 },
+                Event::SetSeconds { place, seconds: 0 },
+                Event::SetLength { place, length: 0 },
+            ]);
+        }
+        let place = self.any_free()?;
+        let some = self.rng().below(PLACE_OCTETS);
+        let octet = self.rng().pick(&[0, 1, PLACE_OCTETS - 1, some]);
+        Some(vec![self.octet_becomes(octets_of(place).start + octet)])
+    }
+
+    /// A length that the place has no room for. Where an LLDPDU fills its place, it may even look
+    /// whole: its End becomes a TLV of L = 0, and the next place, being free, begins with an End.
+    fn length_above_1500(&mut self) -> Option<Vec<Event>> {
+        let full = self.used_places().into_iter().find(|&place| {
+            usize::from(self.desk.table.length[place]) == PLACE_OCTETS
+                && self.free_places().contains(&(place + 1))
+        });
+        if let Some(place) = full {
+            if self.rng().once_in(2) {
+                let end = octets_of(place).end - 2;
+                return Some(vec![
+                    Event::SetOctet { at: end, octet: 0x0A },
+                    Event::SetLength { place, length: PLACE_OCTETS as u16 + 2 },
+                ]);
+            }
+        }
+        let place = self.any_used()?;
+        let some = self.rng().between(PLACE_OCTETS + 1, 65_535) as u16;
+        let wrapped = self.desk.table.length[place] + 2048;
+        let length = self.rng().pick(&[1_501, 1_502, 3_000, 48_000, 65_535, wrapped, some]);
+        Some(vec![Event::SetLength { place, length }])
+    }
+
+    /// The number becomes another one, or an End in the middle makes the LLDPDU end sooner.
+    fn another_length(&mut self) -> Option<Vec<Event>> {
+        let place = self.any_used()?;
+        if self.rng().once_in(3) {
+            let later = octets_of(place).start + 9 + (3 + self.agent_at(place).port.len()) + 4;
+            let edits = [later, later + 1].map(|at| Event::SetOctet { at, octet: 0 });
+            return Some(edits.to_vec());
+        }
+        let right = self.desk.table.length[place];
+        let some = self.rng().between(1, PLACE_OCTETS) as u16;
+        let near = [right - 1, right - 2, right + 1, right + 2];
+        let far = [1, 2, PLACE_OCTETS as u16, some];
+        let length = self.rng().pick(&[near, far].concat());
+        (length <= PLACE_OCTETS as u16).then(|| vec![Event::SetLength { place, length }])
+    }
+
+    /// One octet of the LLDPDU becomes another one, and a refusal 4, 5 or 6 is due.
+    fn invalid_lldpdu(&mut self) -> Option<Vec<Event>> {
+        let place = self.any_used()?;
+        let start = octets_of(place).start;
+        let mut lldpdu =
+            self.desk.buffer()[start..][..usize::from(self.desk.table.length[place])].to_vec();
+        let some = self.rng().below(lldpdu.len());
+        let front = self.rng().below(19);
+        let at = self.rng().pick(&[some, front, lldpdu.len() - 1, lldpdu.len() - 2]);
+        lldpdu[at] = match self.rng().below(3) {
+            0 => self.rng().octet(),
+            1 => lldpdu[at] ^ (1 << self.rng().below(8)),
+            _ => self.rng().pick(&[0x02, 0x04, 0x06, 0xFE]),
+        };
+        let edit = Event::SetOctet { at: start + at, octet: lldpdu[at] };
+        outline_lldpdu(&lldpdu).is_err().then(|| vec![edit])
+    }
+
+    /// What is left goes up, or the seconds of the LLDPDU go down.
+    fn too_many_seconds_left(&mut self) -> Option<Vec<Event>> {
+        let place = self.any_used()?;
+        let outline = self.desk.table.outline(self.desk.buffer(), place)?;
+        let left = self.desk.table.seconds[place];
+        if self.rng().once_in(3) {
+            let some = self.rng().below(usize::from(left)) as u16;
+            let fewer = self.rng().pick(&[left - 1, some, 0]);
+            return Some(self.seconds_become(place, fewer));
+        }
+        let some = self.rng().between(usize::from(outline.seconds), 65_535) as u16;
+        let seconds = self.rng().pick(&[outline.seconds.saturating_add(1), some, 65_535]);
+        Some(vec![Event::SetSeconds { place, seconds }])
+    }
+
+    /// The seconds of the LLDPDU at a place, behind the port ID (L5).
+    fn seconds_become(&mut self, place: usize, seconds: u16) -> Vec<Event> {
+        let at = octets_of(place).start + 9 + (3 + self.agent_at(place).port.len()) + 2;
+        let [high, low] = seconds.to_be_bytes();
+        vec![Event::SetOctet { at, octet: high }, Event::SetOctet { at: at + 1, octet: low }]
+    }
+
+    /// A record is copied as it is or with other seconds; one takes the port of another; or one
+    /// takes the chassis of another.
+    fn identity_twice(&mut self) -> Option<Vec<Event>> {
+        let from = self.any_used()?;
+        match self.rng().below(4) {
+            0 => Some(vec![Event::CopyPlace { from, to: self.any_free()? }]),
+            1 => {
+                // The one that was there gets the other seconds.
+                let copy = Event::CopyPlace { from, to: self.any_free()? };
+                Some([vec![copy], self.seconds_become(from, 65_535)].concat())
+            }
+            2 => {
+                let place = self.any_used()?;
+                Some(vec![Event::SetPort { place, port: self.desk.table.port[from] }])
+            }
+            _ => {
+                let place = self.any_used()?;
+                let chassis = self.agent_at(from).chassis;
+                let start = octets_of(place).start + 3;
+                let edits = chassis.iter().zip(start..);
+                Some(edits.map(|(&octet, at)| Event::SetOctet { at, octet }).collect())
+            }
+        }
+    }
+
+    /// A record of another port is copied to a free place, or moved, so that it is on one of these
+    /// ports.
+    fn one_more_on(&mut self, ports: &[usize]) -> Option<Vec<Event>> {
+        let port = self.any_of(ports)? as u8;
+        let from = self.any_used()?;
+        if self.rng().once_in(2) {
+            return Some(vec![Event::SetPort { place: from, port }]);
+        }
+        let to = self.any_free()?;
+        Some(vec![Event::CopyPlace { from, to }, Event::SetPort { place: to, port }])
+    }
+}

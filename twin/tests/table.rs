@@ -1,0 +1,567 @@
+//! The table's rules N1 to N12, R1 to R12 and the run cases B13, as ordinary tests.
+//! Octets and expected values are typed from the rules page by hand, never taken from the program.
+
+use twin::reader::{Counted, Naming, Refusal};
+use twin::table::{Reply, Sighting, Table};
+
+use Reply::{Gone, Recorded, Refreshed, UnknownGoodbye};
+
+/// The header of frame A.
+const HEADER: [u8; 14] =
+    [0xFF, 0xFF, 0xFF, 0xFF, 0xFF, 0xFF, 0x02, 0x00, 0x00, 0x00, 0x00, 0x01, 0x88, 0xCC];
+
+/// The LLDPDU of frame A, 37 octets.
+const A: [u8; 37] = [
+    0x02, 0x07, 0x04, 0x02, 0x00, 0x00, 0x00, 0x00, 0x01, // chassis
+    0x04, 0x02, 0x07, 0x31, // port ID
+    0x06, 0x02, 0x00, 0x78, // seconds
+    0xFE, 0x07, 0xE0, 0x27, 0x1A, 0x01, 0x01, 0x01, 0x41, // category
+    0xFE, 0x07, 0xE0, 0x27, 0x1A, 0x01, 0x04, 0x01, 0x37, // model number
+    0x00, 0x00, // End
+];
+
+/// Places of octets in A: the last of the chassis, the subtype and the octet of the port ID, and
+/// the two of the seconds.
+const CHASSIS: usize = 8;
+const SUBTYPE: usize = 11;
+const PORT_ID: usize = 12;
+const SECONDS: usize = 15;
+const SECONDS_LOW: usize = 16;
+
+/// Octets of A with some of them changed, behind the header.
+fn frame(changes: &[(usize, u8)]) -> Vec<u8> {
+    [&HEADER[..], &lldpdu(changes)].concat()
+}
+
+fn lldpdu(changes: &[(usize, u8)]) -> Vec<u8> {
+    let mut octets = A.to_vec();
+    for &(at, octet) in changes {
+        octets[at] = octet;
+    }
+    octets
+}
+
+/// Frame A from the neighbour of that number.
+fn neighbour(number: u8) -> Vec<u8> {
+    frame(&[(CHASSIS, number)])
+}
+
+/// Seconds 0 and nothing else: A without its device information.
+fn goodbye(number: u8) -> Vec<u8> {
+    let whole = lldpdu(&[(CHASSIS, number), (SECONDS_LOW, 0)]);
+    [&HEADER[..], &whole[..17], &[0x00, 0x00]].concat()
+}
+
+/// A table with the buffer that is lent to it.
+#[derive(Clone, Debug, PartialEq, Eq)]
+struct Watch {
+    table: Table,
+    buffer: Vec<u8>,
+}
+
+impl Watch {
+    fn started() -> Watch {
+        let mut watch = Watch { table: Table::default(), buffer: vec![0xEE; 48_000] };
+        watch.table.port[3] = 9;
+        watch.table.seconds[0] = 1;
+        watch.table.length[31] = 65_535;
+        assert_eq!(watch.start(), Ok(()));
+        watch
+    }
+
+    /// Each port holds so many neighbours, 10 x port + 1 and so on.
+    fn holding(ports: &[(usize, u8)]) -> Watch {
+        let mut watch = Watch::started();
+        for &(port, count) in ports {
+            for number in 1..=count {
+                let frame = neighbour(10 * port as u8 + number);
+                assert_eq!(watch.frame(port, &frame), Ok(Recorded));
+            }
+        }
+        watch
+    }
+
+    /// Ports 0 to 3 hold six each, port 4 holds two (B13).
+    fn of_b13() -> Watch {
+        Watch::holding(&[(0, 6), (1, 6), (2, 6), (3, 6), (4, 2)])
+    }
+
+    fn start(&mut self) -> Result<(), Refusal> {
+        self.table.start(&mut self.buffer)
+    }
+
+    fn frame(&mut self, port: usize, frame: &[u8]) -> Result<Reply, Refusal> {
+        self.table.frame_on_port(&mut self.buffer, port, frame)
+    }
+
+    fn seconds(&mut self, seconds: u16) -> Result<(), Refusal> {
+        self.table.seconds_passed(&mut self.buffer, seconds)
+    }
+
+    fn lost(&mut self, port: usize) -> Result<(), Refusal> {
+        self.table.link_lost(&mut self.buffer, port)
+    }
+
+    fn holds(&self, port: usize) -> Result<usize, Refusal> {
+        self.table.how_many(&self.buffer, port)
+    }
+
+    fn sees(&self, address: [u8; 6], from: usize) -> Result<Option<Sighting>, Refusal> {
+        self.table.who_sees(&self.buffer, address, from)
+    }
+
+    /// The place has these numbers and octets, and zeros behind them.
+    fn has(&self, place: usize, port: u8, seconds: u16, octets: &[u8]) {
+        assert_eq!(self.table.port[place], port);
+        assert_eq!(self.table.seconds[place], seconds);
+        assert_eq!(usize::from(self.table.length[place]), octets.len());
+        let (kept, behind) = self.buffer[1500 * place..1500 * (place + 1)].split_at(octets.len());
+        assert_eq!(kept, octets);
+        assert!(behind.iter().all(|&octet| octet == 0));
+    }
+
+    /// Calls that answer with a refusal leave everything as it was (R12).
+    fn refuses(&mut self, due: Refusal, call: impl Fn(&mut Watch) -> Option<Refusal>) {
+        let before = self.clone();
+        assert_eq!(call(self), Some(due));
+        assert_eq!(*self, before);
+    }
+
+    /// All calls but Start refuse with 1, whatever the port, the frame and the start are (R11).
+    fn is_unfit(&mut self) {
+        for port in [0, 7, 8, usize::MAX] {
+            self.refuses(1, |watch| watch.frame(port, &neighbour(1)).err());
+            self.refuses(1, |watch| watch.frame(port, &goodbye(1)).err());
+            self.refuses(1, |watch| watch.frame(port, &[]).err());
+            self.refuses(1, |watch| watch.lost(port).err());
+            self.refuses(1, |watch| watch.holds(port).err());
+        }
+        for seconds in [0, 1, 65_535] {
+            self.refuses(1, |watch| watch.seconds(seconds).err());
+        }
+        for from in [0, 31, 32, usize::MAX] {
+            self.refuses(1, |watch| watch.sees([0; 6], from).err());
+        }
+    }
+
+    fn is_fit(&self) -> bool {
+        self.holds(0).is_ok()
+    }
+}
+
+/// A table that holds one neighbour at place 0 becomes unfit by a change.
+fn spoiled(change: impl Fn(&mut Watch)) {
+    let mut watch = Watch::holding(&[(2, 1)]);
+    assert!(watch.is_fit());
+    change(&mut watch);
+    watch.is_unfit();
+    // Start looks at the length of the buffer alone (N6).
+    assert_eq!(watch.start(), Ok(()));
+    assert_eq!(watch, Watch::started());
+}
+
+#[test]
+fn start_makes_everything_0() {
+    let watch = Watch::started();
+    assert_eq!(watch.table, Table { port: [0; 32], seconds: [0; 32], length: [0; 32] });
+    assert_eq!(watch.buffer, vec![0; 48_000]);
+    for length in [0, 1, 47_999, 48_001, 96_000] {
+        let mut other = Watch::holding(&[(1, 1)]);
+        other.buffer.resize(length, 0xEE);
+        other.refuses(1, |watch| watch.start().err());
+        other.is_unfit();
+    }
+}
+
+#[test]
+fn a_new_record_takes_the_lowest_free_place() {
+    let mut watch = Watch::holding(&[(5, 3)]);
+    watch.has(0, 5, 120, &lldpdu(&[(CHASSIS, 51)]));
+    watch.has(1, 5, 120, &lldpdu(&[(CHASSIS, 52)]));
+    watch.has(2, 5, 120, &lldpdu(&[(CHASSIS, 53)]));
+    watch.has(3, 0, 0, &[]);
+    assert_eq!(watch.frame(5, &goodbye(52)), Ok(Gone));
+    watch.has(1, 0, 0, &[]);
+    watch.has(2, 5, 120, &lldpdu(&[(CHASSIS, 53)]));
+    assert_eq!(watch.frame(6, &neighbour(9)), Ok(Recorded));
+    watch.has(1, 6, 120, &lldpdu(&[(CHASSIS, 9)]));
+    assert_eq!(watch.frame(6, &neighbour(8)), Ok(Recorded));
+    watch.has(3, 6, 120, &lldpdu(&[(CHASSIS, 8)]));
+}
+
+#[test]
+fn header_and_padding_are_not_kept() {
+    let mut watch = Watch::started();
+    let padded = [&frame(&[])[..], &[0xAB; 9]].concat();
+    assert_eq!(watch.frame(0, &padded), Ok(Recorded));
+    watch.has(0, 0, 120, &A);
+    let mut bare = Watch::started();
+    assert_eq!(bare.frame(0, &frame(&[])), Ok(Recorded));
+    assert_eq!(watch, bare);
+}
+
+#[test]
+fn the_longest_lldpdu_fills_its_place() {
+    // Three TLVs of types that are skipped: 17 + 2 x 513 + 455 + 2 = 1,500 octets.
+    let skipped = [&[0x0B, 0xFF][..], &[0x55; 511]].concat();
+    let last = [&[0x0B, 0xC5][..], &[0x55; 453]].concat();
+    let longest = [&A[..17], &skipped, &skipped, &last, &[0x00, 0x00]].concat();
+    assert_eq!(longest.len(), 1500);
+    let mut watch = Watch::holding(&[(1, 1)]);
+    assert_eq!(watch.frame(7, &[&HEADER[..], &longest].concat()), Ok(Recorded));
+    watch.has(1, 7, 120, &longest);
+    assert_eq!(watch.frame(7, &neighbour(70)), Ok(Recorded));
+    watch.has(1, 7, 120, &longest);
+    // The same one, shorter: zeros follow.
+    assert_eq!(watch.frame(7, &frame(&[])), Ok(Refreshed));
+    watch.has(1, 7, 120, &A);
+    watch.has(2, 7, 120, &lldpdu(&[(CHASSIS, 70)]));
+    // One octet more makes the frame too long (F1).
+    let padded = [&HEADER[..], &longest, &[0x00]].concat();
+    watch.refuses(3, |watch| watch.frame(7, &padded).err());
+}
+
+#[test]
+fn a_refresh_keeps_the_place() {
+    let mut watch = Watch::holding(&[(0, 2)]);
+    let longer = [&lldpdu(&[(CHASSIS, 1)])[..35], &[0x08, 0x01, 0x61, 0x00, 0x00]].concat();
+    assert_eq!(watch.frame(0, &[&HEADER[..], &longer].concat()), Ok(Refreshed));
+    watch.has(0, 0, 120, &longer);
+    let lower = frame(&[(CHASSIS, 1), (SECONDS_LOW, 1)]);
+    assert_eq!(watch.frame(0, &lower), Ok(Refreshed));
+    watch.has(0, 0, 1, &lower[14..]);
+    watch.has(1, 0, 120, &lldpdu(&[(CHASSIS, 2)]));
+    watch.has(2, 0, 0, &[]);
+    // Time passed, and the refresh gives the seconds back.
+    assert_eq!(watch.frame(0, &neighbour(1)), Ok(Refreshed));
+    assert_eq!(watch.seconds(100), Ok(()));
+    watch.has(0, 0, 20, &lldpdu(&[(CHASSIS, 1)]));
+    assert_eq!(watch.frame(0, &neighbour(1)), Ok(Refreshed));
+    watch.has(0, 0, 120, &lldpdu(&[(CHASSIS, 1)]));
+    assert_eq!(watch.holds(0), Ok(2));
+}
+
+#[test]
+fn what_makes_an_identity() {
+    let mut watch = Watch::started();
+    assert_eq!(watch.frame(0, &frame(&[])), Ok(Recorded));
+    // Another chassis, another subtype, other octets, another port (N2).
+    assert_eq!(watch.frame(0, &frame(&[(CHASSIS, 2)])), Ok(Recorded));
+    assert_eq!(watch.frame(0, &frame(&[(3, 3)])), Ok(Recorded));
+    assert_eq!(watch.frame(0, &frame(&[(SUBTYPE, 5)])), Ok(Recorded));
+    assert_eq!(watch.frame(0, &frame(&[(PORT_ID, 0x32)])), Ok(Recorded));
+    assert_eq!(watch.frame(1, &frame(&[])), Ok(Recorded));
+    // A port ID of which the known one is the beginning.
+    let two = [&HEADER[..], &A[..9], &[0x04, 0x03, 0x07, 0x31, 0x00], &A[13..]].concat();
+    assert_eq!(watch.frame(0, &two), Ok(Recorded));
+    assert_eq!(watch.holds(0), Ok(6));
+    assert_eq!(watch.holds(1), Ok(1));
+    // Destination, source, seconds and what follows them play no part.
+    let mut other = frame(&[(SECONDS, 0xFF), (25, 0x42)]);
+    other[..12].copy_from_slice(&[0x01, 0x80, 0xC2, 0x00, 0x00, 0x0E, 9, 9, 9, 9, 9, 9]);
+    assert_eq!(watch.frame(0, &other), Ok(Refreshed));
+    watch.has(0, 0, 0xFF78, &other[14..]);
+}
+
+#[test]
+fn goodbyes() {
+    let mut watch = Watch::of_b13();
+    let before = watch.clone();
+    // Unknown, also where the port holds six or the common places are taken (N7).
+    assert_eq!(watch.frame(0, &goodbye(99)), Ok(UnknownGoodbye));
+    assert_eq!(watch.frame(4, &goodbye(99)), Ok(UnknownGoodbye));
+    assert_eq!(watch.frame(7, &goodbye(1)), Ok(UnknownGoodbye));
+    assert_eq!(watch, before);
+    // A goodbye may carry other fields.
+    let laden = frame(&[(CHASSIS, 1), (SECONDS_LOW, 0)]);
+    assert_eq!(watch.frame(0, &laden), Ok(Gone));
+    watch.has(0, 0, 0, &[]);
+    assert_eq!(watch.frame(0, &laden), Ok(UnknownGoodbye));
+    assert_eq!(watch.holds(0), Ok(5));
+}
+
+#[test]
+fn the_run_cases() {
+    let mut watch = Watch::of_b13();
+    watch.refuses(7, |watch| watch.frame(0, &neighbour(7)).err());
+    watch.refuses(8, |watch| watch.frame(4, &neighbour(43)).err());
+    assert_eq!(watch.frame(5, &neighbour(51)), Ok(Recorded));
+    assert_eq!(watch.frame(5, &neighbour(52)), Ok(Recorded));
+    watch.refuses(8, |watch| watch.frame(5, &neighbour(53)).err());
+    assert_eq!(watch.frame(0, &goodbye(6)), Ok(Gone));
+    assert_eq!(watch.frame(4, &neighbour(43)), Ok(Recorded));
+    watch.has(5, 4, 120, &lldpdu(&[(CHASSIS, 43)]));
+    assert_eq!(watch.holds(0), Ok(5));
+    assert_eq!(watch.holds(4), Ok(3));
+    assert_eq!(watch.holds(5), Ok(2));
+
+    let mut watch = Watch::holding(&[(0, 1)]);
+    assert_eq!(watch.seconds(119), Ok(()));
+    watch.has(0, 0, 1, &lldpdu(&[(CHASSIS, 1)]));
+    assert_eq!(watch.seconds(1), Ok(()));
+    assert_eq!(watch, Watch::started());
+}
+
+#[test]
+fn seven_before_eight() {
+    // The sixteen are taken and the port holds six: 8 needs two to five (R11).
+    let mut watch = Watch::of_b13();
+    for port in 0..4 {
+        watch.refuses(7, |watch| watch.frame(port, &neighbour(99)).err());
+    }
+    // A known one is never refused for room (N12).
+    for port in 0..4 {
+        assert_eq!(watch.frame(port, &neighbour(10 * port as u8 + 6)), Ok(Refreshed));
+    }
+}
+
+#[test]
+fn the_sure_places_stay_sure() {
+    // Eight ports share the sixteen: four hold six, four hold two, and all places are used.
+    let mut watch = Watch::of_b13();
+    for port in [5, 6, 7] {
+        assert_eq!(watch.frame(port, &neighbour(1)), Ok(Recorded));
+        assert_eq!(watch.frame(port, &neighbour(2)), Ok(Recorded));
+        watch.refuses(8, |watch| watch.frame(port, &neighbour(3)).err());
+    }
+    assert!(watch.table.length.iter().all(|&length| length == 37));
+    // Six on a port with common places left.
+    let mut watch = Watch::holding(&[(3, 6)]);
+    watch.refuses(7, |watch| watch.frame(3, &neighbour(9)).err());
+    assert_eq!(watch.frame(2, &neighbour(9)), Ok(Recorded));
+    // Other shares of the sixteen: 2 for each port.
+    let mut watch = Watch::holding(&[(0, 4), (1, 4), (2, 4), (3, 4), (4, 4), (5, 4), (6, 4)]);
+    assert_eq!(watch.frame(7, &neighbour(1)), Ok(Recorded));
+    assert_eq!(watch.frame(0, &neighbour(5)), Ok(Recorded));
+    assert_eq!(watch.frame(7, &neighbour(2)), Ok(Recorded));
+    assert_eq!(watch.frame(7, &neighbour(3)), Ok(Recorded));
+    for port in [0, 1, 2, 3, 4, 5, 6, 7] {
+        watch.refuses(8, |watch| watch.frame(port, &neighbour(99)).err());
+    }
+}
+
+#[test]
+fn the_order_of_refusals() {
+    let mut watch = Watch::of_b13();
+    for port in [8, 9, 255, 256, 65_536, 1 << 32, usize::MAX] {
+        watch.refuses(2, |watch| watch.frame(port, &neighbour(1)).err());
+        watch.refuses(2, |watch| watch.frame(port, &[]).err());
+        watch.refuses(2, |watch| watch.lost(port).err());
+        watch.refuses(2, |watch| watch.holds(port).err());
+    }
+    let new = neighbour(99);
+    let type_0800 = [&new[..12], &[0x08, 0x00], &new[14..]].concat();
+    let six_octets = [&new[..14], &[0x02, 0x06, 0x04, 2, 0, 0, 0, 0], &new[23..]].concat();
+    let again = [&new[..49], &[0x06, 0x02, 0x00, 0x78], &new[49..]].concat();
+    for port in [0, 4] {
+        watch.refuses(3, |watch| watch.frame(port, &type_0800).err());
+        watch.refuses(3, |watch| watch.frame(port, &new[..13]).err());
+        watch.refuses(4, |watch| watch.frame(port, &six_octets).err());
+        watch.refuses(5, |watch| watch.frame(port, &new[..50]).err());
+        watch.refuses(6, |watch| watch.frame(port, &again).err());
+    }
+    watch.refuses(7, |watch| watch.frame(0, &new).err());
+    watch.refuses(8, |watch| watch.frame(4, &new).err());
+}
+
+#[test]
+fn seconds_pass() {
+    let mut watch = Watch::started();
+    for (number, seconds) in [(1, 1u16), (2, 2), (3, 120), (4, 65_535)] {
+        let [high, low] = seconds.to_be_bytes();
+        let frame = frame(&[(CHASSIS, number), (SECONDS, high), (SECONDS_LOW, low)]);
+        assert_eq!(watch.frame(usize::from(number), &frame), Ok(Recorded));
+    }
+    let before = watch.clone();
+    assert_eq!(watch.seconds(0), Ok(()));
+    assert_eq!(watch, before);
+    assert_eq!(watch.seconds(1), Ok(()));
+    watch.has(0, 0, 0, &[]);
+    watch.has(1, 2, 1, &lldpdu(&[(CHASSIS, 2), (SECONDS_LOW, 2)]));
+    watch.has(2, 3, 119, &lldpdu(&[(CHASSIS, 3)]));
+    assert_eq!(watch.seconds(118), Ok(()));
+    watch.has(1, 0, 0, &[]);
+    watch.has(2, 3, 1, &lldpdu(&[(CHASSIS, 3)]));
+    watch.has(3, 4, 65_416, &lldpdu(&[(CHASSIS, 4), (SECONDS, 0xFF), (SECONDS_LOW, 0xFF)]));
+    assert_eq!(watch.seconds(65_415), Ok(()));
+    watch.has(2, 0, 0, &[]);
+    watch.has(3, 4, 1, &lldpdu(&[(CHASSIS, 4), (SECONDS, 0xFF), (SECONDS_LOW, 0xFF)]));
+    let all = frame(&[(SECONDS, 0xFF), (SECONDS_LOW, 0xFF)]);
+    assert_eq!(watch.frame(0, &all), Ok(Recorded));
+    assert_eq!(watch.seconds(65_535), Ok(()));
+    assert_eq!(watch, Watch::started());
+}
+
+#[test]
+fn a_lost_link_frees_its_port_alone() {
+    let mut watch = Watch::holding(&[(0, 2), (7, 3)]);
+    assert_eq!(watch.holds(0), Ok(2));
+    assert_eq!(watch.lost(7), Ok(()));
+    assert_eq!(watch, Watch::holding(&[(0, 2)]));
+    assert_eq!(watch.lost(7), Ok(()));
+    assert_eq!(watch.frame(3, &neighbour(30)), Ok(Recorded));
+    assert_eq!(watch.lost(0), Ok(()));
+    watch.has(0, 0, 0, &[]);
+    watch.has(1, 0, 0, &[]);
+    watch.has(2, 3, 120, &lldpdu(&[(CHASSIS, 30)]));
+    assert_eq!(watch.lost(3), Ok(()));
+    assert_eq!(watch, Watch::started());
+}
+
+/// A frame of a neighbour, with link information put before its End.
+fn linked(number: u8, tlvs: &[&[u8]]) -> Vec<u8> {
+    let whole = neighbour(number);
+    [&whole[..49], &tlvs.concat(), &[0x00, 0x00]].concat()
+}
+
+#[test]
+fn who_sees_an_address() {
+    // Interface type 00 06 and port number 05 see 02-00-00-00-00-11; 06 and 01 00 see that and -12.
+    let one = [
+        0xFE, 0x10, 0xE0, 0x27, 0x1A, 0x02, 0x02, 0x00, 0x06, 0x01, 0x05, 0x01, 0x02, 0x00, 0x00,
+        0x00, 0x00, 0x11,
+    ];
+    let both = [
+        0xFE, 0x16, 0xE0, 0x27, 0x1A, 0x02, 0x01, 0x06, 0x02, 0x01, 0x00, 0x02, 0x02, 0x00, 0x00,
+        0x00, 0x00, 0x12, 0x02, 0x00, 0x00, 0x00, 0x00, 0x11,
+    ];
+    // It says two addresses and has one: not well formed. An address list does not count either.
+    let broken = [
+        0xFE, 0x0F, 0xE0, 0x27, 0x1A, 0x02, 0x01, 0x06, 0x01, 0x05, 0x02, 0x02, 0x00, 0x00, 0x00,
+        0x00, 0x12,
+    ];
+    let list = [0xFE, 0x0B, 0xE0, 0x27, 0x1A, 0x03, 0x01, 0x02, 0x00, 0x00, 0x00, 0x00, 0x12];
+    let [eleven, twelve] = [0x11, 0x12].map(|last| [0x02, 0x00, 0x00, 0x00, 0x00, last]);
+    let at_one = Naming {
+        interface: Counted { count: 2, value: 6 },
+        number: Counted { count: 1, value: 5 },
+    };
+    let at_both = Naming {
+        interface: Counted { count: 1, value: 6 },
+        number: Counted { count: 2, value: 256 },
+    };
+
+    let mut watch = Watch::holding(&[(0, 1)]);
+    assert_eq!(watch.frame(1, &linked(2, &[&one, &both])), Ok(Recorded));
+    assert_eq!(watch.frame(1, &linked(3, &[&broken, &list])), Ok(Recorded));
+    assert_eq!(watch.frame(5, &linked(4, &[&broken, &both, &one])), Ok(Recorded));
+    let first = Some(Sighting { place: 1, naming: at_one });
+    let second = Some(Sighting { place: 1, naming: at_both });
+    let last = Some(Sighting { place: 3, naming: at_both });
+    for from in [0, 1] {
+        assert_eq!(watch.sees(eleven, from), Ok(first));
+        assert_eq!(watch.sees(twelve, from), Ok(second));
+    }
+    for from in [2, 3] {
+        assert_eq!(watch.sees(eleven, from), Ok(last));
+        assert_eq!(watch.sees(twelve, from), Ok(last));
+    }
+    for from in [4, 31, 32, 33, 256, 1 << 32, usize::MAX] {
+        assert_eq!(watch.sees(eleven, from), Ok(None));
+    }
+    assert_eq!(watch.sees([0x02, 0x00, 0x00, 0x00, 0x00, 0x13], 0), Ok(None));
+    // The places that are free now are passed over.
+    assert_eq!(watch.lost(1), Ok(()));
+    assert_eq!(watch.sees(eleven, 0), Ok(last));
+}
+
+#[test]
+fn free_places_must_be_clear() {
+    for place in [1, 31] {
+        spoiled(|watch| watch.table.port[place] = 1);
+        spoiled(|watch| watch.table.seconds[place] = 1);
+        for octet in [0, 1, 1499] {
+            spoiled(|watch| watch.buffer[1500 * place + octet] = 1);
+        }
+    }
+    // The length alone becomes 0.
+    spoiled(|watch| watch.table.length[0] = 0);
+}
+
+#[test]
+fn used_places_must_be_sound() {
+    for port in [8, 9, 128, 130, 255] {
+        spoiled(|watch| watch.table.port[0] = port);
+    }
+    for seconds in [0, 121, 65_535] {
+        spoiled(|watch| watch.table.seconds[0] = seconds);
+    }
+    for length in [1, 35, 36, 38, 39, 1500, 1501, 48_000, 65_535] {
+        spoiled(|watch| watch.table.length[0] = length);
+    }
+    for (at, octet) in [(0, 0x04), (1, 0x08), (11, 0), (11, 8), (14, 0x03), (17, 0x06), (36, 1)] {
+        spoiled(|watch| watch.buffer[at] = octet);
+    }
+    // An End in the middle, and octets behind the End.
+    spoiled(|watch| watch.buffer[26..28].fill(0));
+    for octet in [37, 1499] {
+        spoiled(|watch| watch.buffer[octet] = 1);
+    }
+    // Seconds of the LLDPDU under what is left, and seconds 0.
+    spoiled(|watch| watch.buffer[SECONDS_LOW] = 119);
+    spoiled(|watch| watch.buffer[SECONDS_LOW] = 0);
+    // Changes that leave it fit.
+    for seconds in [1, 2, 119, 120] {
+        let mut watch = Watch::holding(&[(2, 1)]);
+        watch.table.seconds[0] = seconds;
+        assert!(watch.is_fit());
+    }
+}
+
+#[test]
+fn an_lldpdu_may_not_run_into_the_next_place() {
+    // Its End would be the first two octets of the next place, which is free.
+    spoiled(|watch| {
+        let skipped = [&[0x0B, 0xFF][..], &[0x55; 511]].concat();
+        let last = [&[0x0B, 0xC7][..], &[0x55; 455]].concat();
+        let whole = [&A[..17], &skipped, &skipped, &last].concat();
+        assert_eq!(whole.len(), 1500);
+        watch.buffer[..1500].copy_from_slice(&whole);
+        watch.table.length[0] = 1502;
+    });
+}
+
+/// Writes a record over a place, without asking anybody.
+fn write(watch: &mut Watch, place: usize, port: u8, octets: &[u8]) {
+    watch.table.port[place] = port;
+    watch.table.seconds[place] = 120;
+    watch.table.length[place] = octets.len() as u16;
+    watch.buffer[1500 * place..][..octets.len()].copy_from_slice(octets);
+}
+
+#[test]
+fn no_identity_may_stand_twice() {
+    for place in [1, 31] {
+        spoiled(|watch| write(watch, place, 2, &lldpdu(&[(CHASSIS, 21)])));
+        // Other seconds and another category do not make another identity.
+        spoiled(|watch| write(watch, place, 2, &lldpdu(&[(CHASSIS, 21), (15, 1), (25, 0x42)])));
+        let mut watch = Watch::holding(&[(2, 1)]);
+        write(&mut watch, place, 3, &lldpdu(&[(CHASSIS, 21)]));
+        assert!(watch.is_fit());
+    }
+}
+
+#[test]
+fn no_port_may_hold_seven() {
+    spoiled(|watch| {
+        for place in 1..7 {
+            write(watch, place, 2, &lldpdu(&[(CHASSIS, 90 + place as u8)]));
+            assert_eq!(watch.is_fit(), place < 6);
+        }
+    });
+}
+
+#[test]
+fn the_sum_beyond_two_may_not_be_17() {
+    // Ports 0, 1, 3 and 4 hold six, then port 2 holds three.
+    spoiled(|watch| {
+        for place in 1..25 {
+            let port = [0, 1, 3, 4][place % 4];
+            write(watch, place, port, &lldpdu(&[(CHASSIS, 90 + place as u8)]));
+        }
+        assert!(watch.is_fit());
+        write(watch, 30, 2, &lldpdu(&[(CHASSIS, 80)]));
+        assert!(watch.is_fit());
+        write(watch, 31, 2, &lldpdu(&[(CHASSIS, 81)]));
+    });
+}
