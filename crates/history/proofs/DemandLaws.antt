@@ -1,0 +1,186 @@
+-- The model satisfies demand 3: `demand3`, for every history and any number of ports.
+-- Each field is read off `sound` and `in-words`; the answers are those of the shares (N12).
+use Prim.Native.Nat.{ℕ, suc, _+_, _-_, _≤_, _<_}
+use mathlib.Core.Path.{_≡_, refl, sym, ap, _∙_}
+use mathlib.Core.Logic.{_≢_, _↔_}
+use mathlib.Core.Bool.{Bool, true, false}
+use mathlib.Core.List.{List, [], _∷_}
+use mathlib.Core.Option.{Option, none, some, Option·none-ne-some}
+use native.Mathlib.Omega.{arith}
+use borrow.Author.Tests.{eqb-true, eq-eqb, ne-eqb, ltb-true, lt-ltb, le-ltb}
+use lib.Dec.{ltb, eqb}
+use lib.ListN.{length}
+use Rattle.tally.specs.Tests.{pick, both}
+use Rattle.tally.proofs.TestsLaws.{both-true}
+use Rattle.rules.specs.Identity.{Ident, same}
+use Rattle.rules.specs.Events.{Said, says, History, whose}
+use Rattle.rules.specs.Shares.{sure, most, commonFor, beyond, share, room}
+use Rattle.rules.specs.Answers.{answerTo}
+use Rattle.rules.specs.declared.Room.the-variants.{Enough, Full, Taken}
+use Rattle.rules.specs.declared.Reply.the-variants.{Refreshed, Gone}
+use Rattle.rules.specs.Model.{Rec, Places, isSome, lookup, reply, run}
+use Rattle.rules.proofs.IdentityLaws.{clash}
+use Rattle.rules.proofs.EachLaws.{lookup-of}
+use Rattle.rules.proofs.PlacesLaws.{in-some, lookup-at}
+use Rattle.history.specs.Past.{inForce, among, named, numberBy, answerBy, latest, present, number, held, answer}
+use Rattle.history.specs.Words.{Last, Neighbour}
+use Rattle.history.specs.Demand.{Has, Knows, New, Distinct, Demand3}
+use Rattle.history.proofs.PastLaws.{on-port}
+use Rattle.history.proofs.WordsLaws.{in-words, neighbour-present, present-neighbour}
+use Rattle.history.proofs.CountsLaws.{named-distinct, unnamed, passing-same, length-passing}
+use Rattle.history.proofs.AgreeLaws.{recordFor, Sound, known-same, holds-held, same-answer, sound}
+
+-- what is found is in some place
+lookup-has : (w : Ident) (r : Rec) (t : Places) → lookup w t ≡ some r → Has t r
+lookup-has w r [] e = absurd (Option·none-ne-some r e)
+lookup-has w r (none ∷ t) e = let k = lookup-has w r t e in (suc (k .0), k .1)
+lookup-has w r (some y ∷ t) e = go (same w (y .who)) e (lookup-has w r t)
+  where
+    go : (b : Bool) → pick b (some y) (lookup w t) ≡ some r → (lookup w t ≡ some r → Has t r) → Has (some y ∷ t) r
+    go true d ih = (0, d)
+    go false d ih = let k = ih d in (suc (k .0), k .1)
+
+-- The room that the shares leave (N12)
+
+module _ (n : ℕ) (f : ℕ → ℕ) (p : ℕ) where
+  share-sure : f p < sure → share n f p ≡ Enough
+  unfolding share
+  share-sure l = rw (lt-ltb (f p) sure l)
+
+  share-full : f p ≡ most → share n f p ≡ Full
+  unfolding share
+  share-full e = rw (le-ltb (f p) sure (omega arith), eq-eqb (f p) most e)
+
+  share-taken : sure ≤ f p → f p < most → beyond n f ≡ commonFor n → share n f p ≡ Taken
+  unfolding share
+  share-taken l m e = rw (le-ltb (f p) sure l, ne-eqb (f p) most (omega arith), eq-eqb (beyond n f) (commonFor n) e)
+
+  share-left : sure ≤ f p → f p < most → beyond n f ≢ commonFor n → share n f p ≡ Enough
+  unfolding share
+  share-left l m e = rw (le-ltb (f p) sure l, ne-eqb (f p) most (omega arith), ne-eqb (beyond n f) (commonFor n) e)
+
+-- Neighbours of a history
+
+module _ (n : ℕ) (h : History) where
+  not-present : (w : Ident) → ¬ Neighbour n h w → present n h w ≡ false
+  not-present w f = go (present n h w) refl
+    where
+      go : (b : Bool) → present n h w ≡ b → b ≡ false
+      go true e = absurd (f (present-neighbour n h w e))
+      go false e = refl
+
+  neighbour-port : (w : Ident) → Neighbour n h w → w .port < n
+  neighbour-port w b = on-port n h w (record { said = b .said; since = b .since }) (in-words n h w (b .said) (b .since) .1 (b .last))
+
+  neighbour-named : (w : Ident) → Neighbour n h w → among w (named h) ≡ true
+  unfolding present
+  neighbour-named w b = go (among w (named h)) refl
+    where
+      go : (x : Bool) → among w (named h) ≡ x → x ≡ true
+      go true e = refl
+      go false e = absurd (clash (inForce (latest n h w)) (neighbour-present n h w b) (ap inForce (unnamed n h w e)))
+
+  -- two tests that pass together are one
+  test-same : (a b : Bool) → (a ≡ true → b ≡ true) → (b ≡ true → a ≡ true) → a ≡ b
+  test-same true b f g = sym (f refl)
+  test-same false true f g = g refl
+  test-same false false f g = refl
+
+  -- the number of neighbours of a port is the length of any list of them
+  held-length : (p : ℕ) (l : List Ident) → Distinct l → ((w : Ident) → (among w l ≡ true) ↔ ((w .port ≡ p) × Neighbour n h w)) → length l ≡ held n h p
+  unfolding held number numberBy present
+  held-length p l d e =
+      length-passing l (named h) d (named-distinct h) (λ w z. neighbour-named w (e w .0 z .1))
+      ∙ passing-same (λ w. among w l) (λ w. both (eqb (w .port) p) (inForce (latest n h w))) (named h)
+      (λ w. test-same (among w l) (both (eqb (w .port) p) (inForce (latest n h w))) (there w) (back w))
+    where
+      there : (w : Ident) → among w l ≡ true → both (eqb (w .port) p) (inForce (latest n h w)) ≡ true
+      there w z =
+          let k = e w .0 z in
+          rw (eq-eqb (w .port) p (k .0)) (neighbour-present n h w (k .1))
+
+      back : (w : Ident) → both (eqb (w .port) p) (inForce (latest n h w)) ≡ true → among w l ≡ true
+      back w z =
+          let k = both-true (eqb (w .port) p) (inForce (latest n h w)) z in
+          e w .1 (eqb-true (w .port) p (k .0), present-neighbour n h w (k .1))
+
+  -- Answers of the history
+
+  new-answer : (p : ℕ) (a : Said) → New n h p a → answer n h p (says a) ≡ answerTo false false (share n (held n h) p)
+  unfolding answer answerBy held number room present
+  new-answer p a x = rw (lt-ltb p n (x .port), ne-eqb (a .seconds) 0 (x .lives), not-present (whose p a) (x .unknown))
+
+  known-answer : (p : ℕ) (a : Said) → Neighbour n h (whose p a) → answer n h p (says a) ≡ pick (eqb (a .seconds) 0) Gone Refreshed
+  unfolding answer answerBy present
+  known-answer p a b =
+      rw (lt-ltb p n (neighbour-port (whose p a) b), neighbour-present n h (whose p a) b) (go (eqb (a .seconds) 0))
+    where
+      go : (g : Bool) → answerTo g true (room n (numberBy (latest n h) (named h)) (whose p a)) ≡ pick g Gone Refreshed
+      go true = refl
+      go false = refl
+
+-- The table
+
+module _ (n : ℕ) (h : History) (t : Places) (s : Sound n h t) where
+  has-lookup : (r : Rec) → Has t r → lookup (r .who) t ≡ some r
+  has-lookup r k = lookup-at r t (k .0) (s .fit .once) (k .1)
+
+  -- the record of an identity is the latest announcement of it
+  record-last : (r : Rec) (a : Said) (since : ℕ) → Has t r → Last n h (r .who) a since → (r .octets ≡ a .octets) × (since + r .left ≡ a .seconds)
+  unfolding recordFor
+  record-last r a since k l =
+      let e = sym (has-lookup r k) ∙ s .agrees (r .who) ∙ ap (recordFor (r .who)) (in-words n h (r .who) a since .1 l) in
+      go (ltb since (a .seconds)) refl e
+    where
+      octetsIn : Option Rec → List ℕ
+      octetsIn none = r .octets
+      octetsIn (some y) = y .octets
+
+      leftIn : Option Rec → ℕ
+      leftIn none = r .left
+      leftIn (some y) = y .left
+
+      go : (b : Bool) → ltb since (a .seconds) ≡ b → some r ≡ pick b (some (record { who = r .who; left = a .seconds - since; octets = a .octets })) none
+          → (r .octets ≡ a .octets) × (since + r .left ≡ a .seconds)
+      go false d z = absurd (Option·none-ne-some r (sym z))
+      go true d z =
+          let x : r .left ≡ a .seconds - since = ap leftIn z in
+          (ap octetsIn z, omega (arith, ltb-true since (a .seconds) d))
+
+  knows-neighbour : (w : Ident) → Knows t w → Neighbour n h w
+  unfolding present
+  knows-neighbour w k =
+      rw (← k .own) (present-neighbour n h (k .rec .who) (sym (known-same n h t s (k .rec .who)) ∙ ap isSome (has-lookup (k .rec) (k .there))))
+
+  neighbour-knows : (w : Ident) → Neighbour n h w → Knows t w
+  unfolding present
+  neighbour-knows w b = go (lookup w t) refl (known-same n h t s w ∙ neighbour-present n h w b)
+    where
+      go : (o : Option Rec) → lookup w t ≡ o → isSome o ≡ true → Knows t w
+      go none e d = absurd (clash false d refl)
+      go (some r) e d = record { rec = r; there = lookup-has w r t e; own = in-some (λ v. v ≡ w) (lookup w t) r (lookup-of w t) e }
+
+-- Demand 3, of the model
+pub demand3 : (n : ℕ) (h : History) → Demand3 n h (run n h)
+demand3 n h =
+    let t = run n h in
+    let s = sound n h in
+    let new : (p : ℕ) (a : Said) → New n h p a → reply n p (says a) (run n h) ≡ answerTo false false (share n (held n h) p) =
+    λ p a x. same-answer n h (run n h) s p (says a) ∙ new-answer n h p a x in
+    record {
+      exactly = λ w. (knows-neighbour n h t s w, neighbour-knows n h t s w);
+      octets = λ r a since k l. record-last n h t s r a since k l .0;
+      seconds-left = λ r a since k l. record-last n h t s r a since k l .1;
+      once = s .fit .once;
+      answers = same-answer n h t s;
+      sure-places = λ p a x l. new p a x ∙ ap (answerTo false false) (share-sure n (held n h) p l);
+      six = s .fit .six;
+      seventh = λ p a x e. new p a x ∙ ap (answerTo false false) (share-full n (held n h) p e);
+      common-places = λ p a x l m. (
+        λ e. new p a x ∙ ap (answerTo false false) (share-taken n (held n h) p l m e),
+        λ e. new p a x ∙ ap (answerTo false false) (share-left n (held n h) p l m e),
+      );
+      known = λ p a b. same-answer n h t s p (says a) ∙ known-answer n h p a b;
+      how-many = holds-held n h t s;
+      counted = held-length n h;
+    }

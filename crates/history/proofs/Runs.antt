@@ -1,0 +1,132 @@
+-- Demand 3 for the code: it holds of every run that the contracts of the public functions allow, from `start` on.
+-- The contracts are the toolchain's own reading of the source (`Post`); nothing here looks at the code behind them.
+use Prim.Native.Nat.{ℕ, _≤_, _<_}
+use borrow.Fn.Kinds.{Dens, resT, endedOf}
+use contract.Lifetimes.{Lfts}
+use denote.Ref.{now}
+use denote.Triple.Clauses.{AtExit}
+use mathlib.Core.Path.{_≡_, sym, ap, _∙_}
+use mathlib.Core.Logic.{_↔_}
+use mathlib.Core.List.{List, [], _∷_}
+use lib.Dec.{ltb, eqb}
+use lib.ListN.{length}
+use Rattle.tally.specs.Tests.{pick}
+use Rattle.reader.specs.declared.naming.Number.{Number}
+use Rattle.rules.specs.Events as event
+use Rattle.rules.specs.Events.{Said, Heard, says, History, whose}
+use Rattle.rules.specs.Shares.{sure, most}
+use Rattle.rules.specs.declared.Reply.the-variants.{Recorded, Refreshed, Gone, Refused}
+use Rattle.rules.specs.Model.{Places, reply}
+use Rattle.numbers.specs.Sizes.{ports}
+use Rattle.table.specs.State.{State, octets, state}
+use Rattle.table.specs.Calls.{stateAfter}
+use Rattle.table.specs.Frame.{heardOf, Told, stateTold}
+use Rattle.table.specs.View.{view}
+use Rattle.table.specs.declared.sight.Count.the-variants as count-is
+use Rattle.table.specs.declared.sight.Sight.the-variants.{Nobody, At}
+use Rattle.table.proofs.start.Kinds as start-kinds
+use Rattle.table.proofs.start.Reads as start
+use Rattle.table.proofs.frame_on_port.Kinds as frame-kinds
+use Rattle.table.proofs.frame_on_port.Reads as frame-on-port
+use Rattle.table.proofs.seconds_passed.Kinds as passed-kinds
+use Rattle.table.proofs.seconds_passed.Reads as seconds-passed
+use Rattle.table.proofs.link_lost.Kinds as lost-kinds
+use Rattle.table.proofs.link_lost.Reads as link-lost
+use Rattle.table.proofs.how_many.Kinds as many-kinds
+use Rattle.table.proofs.how_many.Reads as how-many
+use Rattle.table.proofs.who_sees.Kinds as sees-kinds
+use Rattle.table.proofs.who_sees.Reads as who-sees
+use Rattle.history.specs.Past.{held, answer}
+use Rattle.history.specs.Words.{Neighbour}
+use Rattle.history.specs.Demand.{New, CommonTaken, Demand3}
+use Rattle.history.specs.Calls.{Called, begun, frame, waited, unplugged, Names, Lowest}
+use Rattle.history.proofs.CallsLaws.{demand3-table, demand3-replies, demand3-answers, demand3-holds}
+use Rattle.history.proofs.SeesLaws.{demand3-sees, demand3-unseen}
+
+-- A run: each call is made on the table and the octets that the call before left, and may return whatever its contract allows.
+-- The parameters are the table, the buffer, then a port and a frame, seconds, or a port.
+pub data Ran : State → History → Type 0 where
+  started : (κs : Lfts 1) (a : Dens κs start-kinds.ps) (r : resT start-kinds.r κs .Denot) (x : AtExit (endedOf 1 start-kinds.ps start-kinds.r) κs)
+      → length (now (a .1 .0)) ≡ octets → start.Post κs a r x → Ran (state (r .table) (now (x .1 .0))) []
+  heard : {h : History} (κs : Lfts 2) (a : Dens κs frame-kinds.ps) (r : resT frame-kinds.r κs .Denot) (x : AtExit (endedOf 2 frame-kinds.ps frame-kinds.r) κs)
+      → Ran (state (a .0) (now (a .1 .0))) h → frame-on-port.Post κs a r x
+      → Ran (state (r .table) (now (x .1 .0))) (event.frame (a .1 .1 .0) (heardOf (now (a .1 .1 .1 .0))) ∷ h)
+  passed : {h : History} (κs : Lfts 1) (a : Dens κs passed-kinds.ps) (r : resT passed-kinds.r κs .Denot) (x : AtExit (endedOf 1 passed-kinds.ps passed-kinds.r) κs)
+      → Ran (state (a .0) (now (a .1 .0))) h → seconds-passed.Post κs a r x → Ran (state (r .table) (now (x .1 .0))) (event.passed (a .1 .1 .0) ∷ h)
+  lost : {h : History} (κs : Lfts 1) (a : Dens κs lost-kinds.ps) (r : resT lost-kinds.r κs .Denot) (x : AtExit (endedOf 1 lost-kinds.ps lost-kinds.r) κs)
+      → Ran (state (a .0) (now (a .1 .0))) h → link-lost.Post κs a r x → Ran (state (r .table) (now (x .1 .0))) (event.lost (a .1 .1 .0) ∷ h)
+
+arrives : {s s′ : State} {h : History} → s′ ≡ s → Called s h → Called s′ h
+arrives e c = rw e c
+
+pub ran-called : {s : State} {h : History} → Ran s h → Called s h
+ran-called (started κs a r x l post) = arrives (ap stateAfter (post .exact)) (begun (state (a .0) (now (a .1 .0))) l)
+ran-called (heard κs a r x c post) = arrives (ap stateTold (post .exact)) (frame (ran-called c) (a .1 .1 .0) (now (a .1 .1 .1 .0)))
+ran-called (passed κs a r x c post) = arrives (ap stateAfter (post .exact)) (waited (ran-called c) (a .1 .1 .0))
+ran-called (lost κs a r x c post) = arrives (ap stateAfter (post .exact)) (unplugged (ran-called c) (a .1 .1 .0))
+
+-- Demand 3, of the table after any run
+pub demand3-code : {s : State} {h : History} → Ran s h → Demand3 ports h (view s)
+demand3-code c = demand3-table (ran-called c)
+
+-- One frame more: `frame_on_port` was called after a run and returned r
+module _ {h : History} (κs : Lfts 2) (a : Dens κs frame-kinds.ps) (r : resT frame-kinds.r κs .Denot) (x : AtExit (endedOf 2 frame-kinds.ps frame-kinds.r) κs)
+    (c : Ran (state (a .0) (now (a .1 .0))) h) (post : frame-on-port.Post κs a r x) where
+  abbrev port : ℕ
+  port = a .1 .1 .0
+
+  abbrev octetsHeard : List ℕ
+  octetsHeard = now (a .1 .1 .1 .0)
+
+  pub code-answers : r .reply ≡ answer ports h port (heardOf octetsHeard)
+  code-answers = ap (λ (t : Told). t .outcome .reply) (post .exact) ∙ demand3-answers (ran-called c) port octetsHeard
+
+  -- a valid frame, sentence by sentence
+  module _ (said : Said) (e : heardOf octetsHeard ≡ says said) where
+    as-model : r .reply ≡ reply ports port (says said) (view (state (a .0) (now (a .1 .0))))
+    as-model =
+        ap (λ (t : Told). t .outcome .reply) (post .exact)
+        ∙ demand3-replies (ran-called c) port octetsHeard
+        ∙ ap (λ (y : Heard). reply ports port y (view (state (a .0) (now (a .1 .0))))) e
+
+    pub code-sure : New ports h port said → held ports h port < sure → r .reply ≡ Recorded
+    code-sure m l = as-model ∙ demand3-code c .sure-places port said m l
+
+    pub code-seventh : New ports h port said → held ports h port ≡ most → r .reply ≡ Refused 7
+    code-seventh m l = as-model ∙ demand3-code c .seventh port said m l
+
+    pub code-taken : New ports h port said → sure ≤ held ports h port → held ports h port < most → CommonTaken ports h → r .reply ≡ Refused 8
+    code-taken m l u t = as-model ∙ demand3-code c .common-places port said m l u .0 t
+
+    pub code-untaken : New ports h port said → sure ≤ held ports h port → held ports h port < most → ¬ CommonTaken ports h → r .reply ≡ Recorded
+    code-untaken m l u t = as-model ∙ demand3-code c .common-places port said m l u .1 t
+
+    pub code-known : Neighbour ports h (whose port said) → r .reply ≡ pick (eqb (said .seconds) 0) Gone Refreshed
+    code-known b = as-model ∙ demand3-code c .known port said b
+
+-- `how_many` was asked after a run
+pub code-holds : {h : History} (κs : Lfts 1) (a : Dens κs many-kinds.ps) (r : resT many-kinds.r κs .Denot) (x : AtExit (endedOf 1 many-kinds.ps many-kinds.r) κs)
+    → Ran (state (a .0) (now (a .1 .0))) h → how-many.Post κs a r x → r ≡ pick (ltb (a .1 .1 .0) ports) (count-is.Holds (held ports h (a .1 .1 .0))) (count-is.Refused 2)
+code-holds κs a r x c post = post .exact ∙ demand3-holds (ran-called c) (a .1 .1 .0)
+
+-- `who_sees` was asked after a run, of an address from a place on
+module _ {h : History} (κs : Lfts 1) (a : Dens κs sees-kinds.ps) (r : resT sees-kinds.r κs .Denot) (x : AtExit (endedOf 1 sees-kinds.ps sees-kinds.r) κs)
+    (c : Ran (state (a .0) (now (a .1 .0))) h) (post : who-sees.Post κs a r x) where
+  abbrev address : List ℕ
+  address = a .1 .1 .0
+
+  abbrev from : ℕ
+  from = a .1 .1 .1 .0
+
+  abbrev table : Places
+  table = view (state (a .0) (now (a .1 .0)))
+
+  pub code-sees : (k : ℕ) (i p : Number) → (r ≡ At k i p) ↔ Lowest h table address from k (i, p)
+  code-sees k i p =
+      let d = demand3-sees (ran-called c) address from k i p in
+      (λ e. d .0 (sym (post .exact) ∙ e), λ l. post .exact ∙ d .1 l)
+
+  pub code-unseen : (r ≡ Nobody) ↔ ((k : ℕ) (y : Number × Number) → from ≤ k → ¬ Names h table address k y)
+  code-unseen =
+      let d = demand3-unseen (ran-called c) address from in
+      (λ e. d .0 (sym (post .exact) ∙ e), λ g. post .exact ∙ d .1 g)
