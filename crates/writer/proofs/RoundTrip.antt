@@ -26,7 +26,7 @@ use Rattle.reader.specs.Meaning.{contents, wellFormed, htipOf, Said, tlvsIn, sa
 use Rattle.reader.specs.Frame.{frameOk, onFrame}
 use Rattle.reader.proofs.Agree.{frame-agrees}
 use Rattle.writer.specs.Encode.{written, octetsOf, chassisTlv, portTlv, secondsTlv, endTlv, wordsTlv, deviceTlv, unlessEmpty, ifLinked, ifListed, fieldTlvs, tlvsOf, encode}
-use Rattle.writer.specs.Rules.{stringRules, goodbyeRules, liveRules, rules, soundOf}
+use Rattle.writer.specs.Rules.{portRules, stringRules, goodbyeRules, liveRules, rules, soundOf}
 use Rattle.writer.proofs.EncodeLaws.{octets-append}
 use Rattle.writer.proofs.ReadBack.{head-written, AllPassed, passed-append, laid, laid-are, walk-octets}
 use Rattle.writer.proofs.Topics.{contents-append, formed-append, Speaks, unlessNone, speaks-string, words-about, device-about, linkContents, speaks-link, first-link, listContents, speaks-list, first-list, first-string}
@@ -210,8 +210,8 @@ module _ (d : Said) (t : List ℕ) where
     six : length (d .chassis) ≡ 6
     six = eqb-true (length (d .chassis)) 6 (kept .0)
 
-    ported : Held (leb 1 (d .subtype) ∷ leb (d .subtype) 7 ∷ leb 1 (length (d .port)) ∷ leb (length (d .port)) 255 ∷ [])
-    ported = held (leb 1 (d .subtype) ∷ leb (d .subtype) 7 ∷ leb 1 (length (d .port)) ∷ leb (length (d .port)) 255 ∷ []) (kept .1 .0)
+    ported : Held (portRules (d .subtype) (length (d .port)))
+    ported = held (portRules (d .subtype) (length (d .port))) (kept .1 .0)
 
     port-short : length (d .port) ≤ 255
     port-short = leb-true (length (d .port)) 255 (ported .1 .1 .1 .0)

@@ -2,7 +2,7 @@
 -- `kept` takes the rules apart once; everything else cites its fields.
 use Prim.Native.Nat.{ℕ, _+_, _-_, _%_, _≤_}
 use mathlib.Core.Path.{_≡_, refl, sym, ap, _∙_}
-use mathlib.Core.List.{List, [], _∷_}
+use mathlib.Core.List.{List, []}
 use mathlib.Core.Bool.{Bool, true, false}
 use mathlib.Core.Option.{some}
 use native.Mathlib.Omega.{arith}
@@ -23,7 +23,7 @@ use Rattle.reader.specs.declared.reading.AddressList.{AddressList}
 use Rattle.reader.specs.declared.reading.AddressList.the-variants as list-is
 use Rattle.writer.specs.Encode.{octetsOf, ifLinked, ifListed, linkInfo}
 use Rattle.writer.proofs.EncodeLaws.{link-size, list-size}
-use Rattle.writer.specs.Rules.{wordsSound, stringRules, tableSound, linkSound, listedSound, listSound, noLink, noList, goodbyeRules, liveRules, rules, soundOf}
+use Rattle.writer.specs.Rules.{portRules, wordsSound, stringRules, tableRules, tableSound, linkSound, listedSound, listSound, noLink, noList, goodbyeRules, liveRules, rules, soundOf}
 
 -- what is said by a description that keeps the rules
 pub record Kept (d : Said) : Type 0 where
@@ -45,7 +45,7 @@ unfolding soundOf
 kept d e =
     let h = held (rules d) e in
     let n = length (d .port) in
-    let p = held (leb 1 (d .subtype) ∷ leb (d .subtype) 7 ∷ leb 1 n ∷ leb n 255 ∷ []) (h .1 .0) in
+    let p = held (portRules (d .subtype) n) (h .1 .0) in
     let w = both-true (leb (length (d .words)) 255) (textOk (d .words)) (h .1 .1 .0) in
     let s = held (stringRules d) (h .1 .1 .1 .0) in
     record {
@@ -74,7 +74,7 @@ pub record Table (n m a : ℕ) : Type 0 where
 
 pub table : (n m a : ℕ) → tableSound n m a ≡ true → Table n m a
 table n m a e =
-    let h = held (leb 1 n ∷ leb n 4 ∷ leb 1 m ∷ leb m 4 ∷ eqb (a % 6) 0 ∷ leb (7 + n + m + a) 511 ∷ []) e in
+    let h = held (tableRules n m a) e in
     record {
       typed = (h .0, h .1 .0);
       numbered = (h .1 .1 .0, h .1 .1 .1 .0);

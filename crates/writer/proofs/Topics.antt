@@ -23,7 +23,7 @@ use Rattle.fields.proofs.LinkLaws.{link-counts}
 use Rattle.lldpdu.specs.Walk.{Tlv, stepOf}
 use Rattle.reader.specs.Meaning.{onField, contents, formed, wellFormed, LinkInfo, first, firstLink, firstList}
 use Rattle.writer.specs.Encode.{wordsTlv, ttcTlv, deviceTlv, linkContent, linkTlv, listTlv, unlessEmpty, ifLinked, ifListed}
-use Rattle.writer.specs.Rules.{wordsSound, tableSound, linkSound, listedSound, listSound}
+use Rattle.writer.specs.Rules.{wordsSound, tableRules, tableSound, linkSound, listedSound, listSound}
 use Rattle.writer.proofs.EncodeLaws.{link-length}
 use Rattle.writer.proofs.ReadBack.{Passed, AllPassed, none-passed, more-passed}
 
@@ -165,8 +165,8 @@ module _ (l : LinkInfo) (e : tableSound (length (l .interface)) (length (l .port
   abbrev content : List ℕ
   content = linkContent l
 
-  rules-hold : Held (leb 1 n ∷ leb n 4 ∷ leb 1 m ∷ leb m 4 ∷ eqb (k % 6) 0 ∷ leb (7 + n + m + k) 511 ∷ [])
-  rules-hold = held (leb 1 n ∷ leb n 4 ∷ leb 1 m ∷ leb m 4 ∷ eqb (k % 6) 0 ∷ leb (7 + n + m + k) 511 ∷ []) e
+  rules-hold : Held (tableRules n m k)
+  rules-hold = held (tableRules n m k) e
 
   sixes : k % 6 ≡ 0
   sixes = eqb-true (k % 6) 0 (rules-hold .1 .1 .1 .1 .0)

@@ -1,9 +1,10 @@
--- Laws of the answer: the five ways to it, as the code goes them, and when each refusal is given.
--- The size that the code has in hand is the number of octets of what is written.
+-- Laws of the answer: the ways to it, as the code goes them, and when each refusal is given.
+-- 9 is decided first, by the answer for an output of 1,500 octets: what keeps the rules has room there.
 use Prim.Native.Nat.{ℕ, _<_, _≤_}
-use mathlib.Core.Path.{_≡_, refl}
+use mathlib.Core.Path.{_≡_, refl, sym, ap, _∙_}
 use mathlib.Core.List.{List}
 use mathlib.Core.Bool.{Bool, true, false, not}
+use native.Mathlib.Omega.{arith}
 use borrow.Author.Tests.{le-leb, lt-leb}
 use lib.ListN.{length}
 use lib.Dec.{leb, eqb}
@@ -12,38 +13,72 @@ use Rattle.reader.specs.Meaning.{saidBy}
 use Rattle.reader.specs.declared.reading.Description.{Description}
 use Rattle.writer.specs.Encode.{encode}
 use Rattle.writer.specs.Rules.{soundOf, allInside}
-use Rattle.writer.specs.Write.{refusalGiven, keeps, writeOf, over, Writes}
+use Rattle.writer.specs.Write.{refusalGiven, octetsWritten, keeps, writeOf, over, Writes}
+use Rattle.writer.specs.declared.Written.{Written}
 use Rattle.writer.specs.declared.Written.the-variants.{Octets, Refused}
 
-module _ (s : List ℕ) (d : Description) (out : List ℕ) where
-  abbrev x : List ℕ
-  x = encode (saidBy s d)
+-- a test that fails decides, whatever went before it
+fails : (a : Bool) → both a false ≡ false
+fails true = refl
+fails false = refl
 
-  -- a refusal leaves the output as it was
-  refuses : (n : ℕ) → Refused n ≡ writeOf s d (length out) → Writes s d out (Refused n) out
-  refuses n e = record { exact = e; output = refl }
+-- n octets: the rules are kept, and n is the size
+passed : (a b t : Bool) (l n : ℕ) → pick (both (both a b) t) (pick t (Octets l) (Refused 10)) (Refused 9) ≡ Octets n → (b ≡ true) × (n ≡ l)
+passed true true true l n e = (refl, sym (ap octetsWritten e))
+passed true true false l n e = absurd (let z : _≡_ {A = ℕ} 9 0 = ap refusalGiven e in omega arith)
+passed true false t l n e = absurd (let z : _≡_ {A = ℕ} 9 0 = ap refusalGiven e in omega arith)
+passed false b t l n e = absurd (let z : _≡_ {A = ℕ} 9 0 = ap refusalGiven e in omega arith)
 
-  pub outside : allInside (length s) d ≡ false → Writes s d out (Refused 9) out
+-- the test that is left once 9 is decided
+abbrev inRoom : ℕ → Written → Written
+inRoom room (Octets n) = pick (leb n room) (Octets n) (Refused 10)
+inRoom room (Refused n) = Refused n
+
+left : (k t : Bool) (l room : ℕ) → pick (both k t) (pick (leb l room) (Octets l) (Refused 10)) (Refused 9) ≡ inRoom room (pick (both k t) (pick t (Octets l) (Refused 10)) (Refused 9))
+left true true l room = refl
+left true false l room = refl
+left false t l room = refl
+
+module _ (s : List ℕ) (d : Description) where
+  -- The answer where any LLDPDU has room
+
+  pub outside : allInside (length s) d ≡ false → Refused 9 ≡ writeOf s d 1500
   unfolding writeOf keeps
-  outside e = refuses 9 (rw e)
+  outside e = rw e
 
-  module _ (e : allInside (length s) d ≡ true) where
-    pub unsound : soundOf (saidBy s d) ≡ false → Writes s d out (Refused 9) out
+  pub unsound : soundOf (saidBy s d) ≡ false → Refused 9 ≡ writeOf s d 1500
+  unfolding writeOf keeps
+  unsound e = rw (e, fails (allInside (length s) d))
+
+  module _ {n : ℕ} (q : n ≡ length (encode (saidBy s d))) where
+    pub too-long : 1500 < n → Refused 9 ≡ writeOf s d 1500
+    unfolding writeOf
+    too-long h = rw (← q, lt-leb n 1500 h, fails (keeps s d))
+
+    pub wanted : allInside (length s) d ≡ true → soundOf (saidBy s d) ≡ true → n ≤ 1500 → Octets n ≡ writeOf s d 1500
     unfolding writeOf keeps
-    unsound f = refuses 9 (rw (e, f))
+    wanted e f h = rw (e, f, ← q, le-leb n 1500 h)
 
-    module _ (f : soundOf (saidBy s d) ≡ true) {n : ℕ} (q : n ≡ length (encode (saidBy s d))) where
-      pub too-long : 1500 < n → Writes s d out (Refused 9) out
-      unfolding writeOf keeps
-      too-long h = refuses 9 (rw (e, f, ← q, lt-leb n 1500 h))
+  -- From it to the answer for an output
 
-      pub too-short : n ≤ 1500 → length out < n → Writes s d out (Refused 10) out
-      unfolding writeOf keeps
-      too-short h k = refuses 10 (rw (e, f, ← q, le-leb n 1500 h, lt-leb n (length out) k))
+  then : (out : List ℕ) {r : Written} → writeOf s d 1500 ≡ r → inRoom (length out) r ≡ writeOf s d (length out)
+  unfolding writeOf
+  then out e = sym (left (keeps s d) (leb (length (encode (saidBy s d))) 1500) (length (encode (saidBy s d))) (length out) ∙ ap (inRoom (length out)) e)
 
-      pub writes : n ≤ 1500 → n ≤ length out → {now : List ℕ} → now ≡ over (length (encode (saidBy s d))) (encode (saidBy s d)) out → Writes s d out (Octets n) now
-      unfolding writeOf keeps
-      writes h k g = record { exact = rw (e, f, ← q, le-leb n 1500 h, le-leb n (length out) k); output = rw q g }
+  pub refuses : (out : List ℕ) {n : ℕ} → writeOf s d 1500 ≡ Refused n → Writes s d out (Refused n) out
+  refuses out e = record { exact = then out e; output = refl }
+
+  module _ {n : ℕ} (e : writeOf s d 1500 ≡ Octets n) where
+    pub said : (soundOf (saidBy s d) ≡ true) × (n ≡ length (encode (saidBy s d)))
+    unfolding writeOf keeps
+    said = passed (allInside (length s) d) (soundOf (saidBy s d)) (leb (length (encode (saidBy s d))) 1500) (length (encode (saidBy s d))) n e
+
+    module _ (out : List ℕ) where
+      pub too-short : length out < n → Writes s d out (Refused 10) out
+      too-short k = record { exact = rw (lt-leb n (length out) k) at (then out e); output = refl }
+
+      pub writes : n ≤ length out → {now : List ℕ} → now ≡ over (length (encode (saidBy s d))) (encode (saidBy s d)) out → Writes s d out (Octets n) now
+      writes k g = record { exact = rw (le-leb n (length out) k) at (then out e); output = rw (said .1) g }
 
 -- 9 exactly where a rule is broken or 1,500 octets do not hold it (R9), 10 exactly where they do and the output does not (R10)
 module _ (s : List ℕ) (d : Description) (room : ℕ) where

@@ -19,8 +19,11 @@ use Rattle.reader.specs.declared.reading.Description.{Description}
 -- What is said
 
 -- the port ID (L4), by its subtype and the number of its octets
+abbrev pub portRules : ℕ → ℕ → List Bool
+portRules subtype n = leb 1 subtype ∷ leb subtype 7 ∷ leb 1 n ∷ leb n 255 ∷ []
+
 abbrev pub portSound : ℕ → ℕ → Bool
-portSound subtype n = all (leb 1 subtype ∷ leb subtype 7 ∷ leb 1 n ∷ leb n 255 ∷ [])
+portSound subtype n = all (portRules subtype n)
 
 -- T10
 abbrev pub wordsSound : List ℕ → Bool
@@ -32,8 +35,11 @@ stringRules d =
     leb (length (d .category)) 255 ∷ leb (length (d .manufacturer)) 6 ∷ leb (length (d .model)) 31 ∷ leb (length (d .number)) 31 ∷ []
 
 -- T7 and W5, by the numbers of octets of interface type, port number and addresses; L is at most 511
+abbrev pub tableRules : ℕ → ℕ → ℕ → List Bool
+tableRules n m a = leb 1 n ∷ leb n 4 ∷ leb 1 m ∷ leb m 4 ∷ eqb (a % 6) 0 ∷ leb (7 + n + m + a) 511 ∷ []
+
 abbrev pub tableSound : ℕ → ℕ → ℕ → Bool
-tableSound n m a = all (leb 1 n ∷ leb n 4 ∷ leb 1 m ∷ leb m 4 ∷ eqb (a % 6) 0 ∷ leb (7 + n + m + a) 511 ∷ [])
+tableSound n m a = all (tableRules n m a)
 
 abbrev pub linkSound : Option LinkInfo → Bool
 linkSound none = true

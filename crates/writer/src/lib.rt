@@ -1,6 +1,7 @@
 // The agent's writer: from a description and the text that it points into, the octets of its announcement.
 // A description that breaks a rule, or an output that is too short, gets its number and not one octet is written.
-ghost use Rattle.writer.specs.Write.{Writes};
+ghost use mathlib.Core.Path.{_≡_};
+ghost use Rattle.writer.specs.Write.{writeOf, Writes};
 
 mod inside;
 mod put;
@@ -25,9 +26,9 @@ const BREAKS_A_RULE: u8 = 9;
 
 const NO_ROOM: u8 = 10;
 
-// Writes the LLDPDU of a description to the front of out (W1, W4); 9 goes before 10 (R11).
-pub fn write(d: Description, text: &[u8], out: &mut [u8]) -> Written
-    ensures { λ r. ⌜ Writes (now (text .entry)) d (now (out .entry)) r (now (out .exit)) ⌝ }
+// What an output with room for any LLDPDU gets: 9, or the number of octets.
+fn size_wanted(d: Description, text: &[u8]) -> Written
+    ensures { λ r. ⌜ r ≡ writeOf (now (text .entry)) d 1500 ⌝ }
 {
     if !all_inside(text.len(), d) {
         return Written::Refused(BREAKS_A_RULE);
@@ -39,9 +40,21 @@ pub fn write(d: Description, text: &[u8], out: &mut [u8]) -> Written
     if size > LONGEST {
         return Written::Refused(BREAKS_A_RULE);
     }
-    if size > out.len() {
-        return Written::Refused(NO_ROOM);
-    }
-    put_lldpdu(text, d, out);
     Written::Octets(size)
+}
+
+// Writes the LLDPDU of a description to the front of out (W1, W4); 9 goes before 10 (R11).
+pub fn write(d: Description, text: &[u8], out: &mut [u8]) -> Written
+    ensures { λ r. ⌜ Writes (now (text .entry)) d (now (out .entry)) r (now (out .exit)) ⌝ }
+{
+    match size_wanted(d, text) {
+        Written::Refused(n) => Written::Refused(n),
+        Written::Octets(size) => {
+            if size > out.len() {
+                return Written::Refused(NO_ROOM);
+            }
+            put_lldpdu(text, d, out);
+            Written::Octets(size)
+        }
+    }
 }

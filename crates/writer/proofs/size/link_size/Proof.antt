@@ -24,33 +24,6 @@ count-of-requires-2 c κs = search needs
 count-of-requires-3 : tie.Need-count-of-requires-3
 count-of-requires-3 c κs = search needs
 
-add-result : tie.Need-add-result
-add-result c =
-    let c1 = c .before in
-    let c2 = c1 .before in
-    let c3 = c2 .before .before in
-    let c4 = c3 .before .before .before in
-    omega (arith, table-size (now (c4 .args .text)) (c3 .l .given .1) (c2 .count-of .ensures) (c1 .count-of2 .ensures) (c .count-of3 .ensures) (c4 .pre) .1)
-
-add-result-2 : tie.Need-add-result-2
-add-result-2 c =
-    let c1 = c .before in
-    let c2 = c1 .before in
-    let c3 = c2 .before .before in
-    let c4 = c3 .before .before .before in
-    omega (arith, table-size (now (c4 .args .text)) (c3 .l .given .1) (c2 .count-of .ensures) (c1 .count-of2 .ensures) (c .count-of3 .ensures) (c4 .pre) .1)
-
-add-result-3 : tie.Need-add-result-3
-add-result-3 c =
-    let c1 = c .before in
-    let c2 = c1 .before in
-    let c3 = c2 .before .before in
-    let c4 = c3 .before .before .before in
-    omega (arith, table-size (now (c4 .args .text)) (c3 .l .given .1) (c2 .count-of .ensures) (c1 .count-of2 .ensures) (c .count-of3 .ensures) (c4 .pre) .1)
-
-returns : tie.Need-returns
-returns c = (ap length (absent-link (now (c .before .before .before .args .text)) (c .enum-told .given .1)), omega arith)
-
 returns-2 : tie.Need-returns-2
 returns-2 c =
     let c1 = c .before in
@@ -58,6 +31,19 @@ returns-2 c =
     let c3 = c2 .before .before in
     let c4 = c3 .before .before .before in
     table-size (now (c4 .args .text)) (c3 .l .given .1) (c2 .count-of .ensures) (c1 .count-of2 .ensures) (c .count-of3 .ensures) (c4 .pre)
+
+-- what is returned bounds the sums on the way to it
+add-result : tie.Need-add-result
+add-result c = omega (arith, returns-2 c .1)
+
+add-result-2 : tie.Need-add-result-2
+add-result-2 c = omega (arith, returns-2 c .1)
+
+add-result-3 : tie.Need-add-result-3
+add-result-3 c = omega (arith, returns-2 c .1)
+
+returns : tie.Need-returns
+returns c = (ap length (absent-link (now (c .before .before .before .args .text)) (c .enum-told .given .1)), omega arith)
 
 pub link-size-spec : {M : Type 1} → statement M
 link-size-spec =

@@ -1,44 +1,40 @@
 -- `writer::sound::table_sound` meets its contract: six tests, front to back.
--- The last is a difference in the code and a sum in the rule.
+-- One test that fails decides (all-fails of TestsLaws); the last is a difference in the code and a sum in the rule.
 use Prim.Native.Nat.{_+_, _%_}
 use mathlib.Core.Path.{sym, _∙_}
 use borrow.Author.Tests.{le-leb, lt-leb, eq-eqb, ne-eqb}
 use borrow.Author.Needs.{needs}
 use lib.Dec.{leb}
-use Rattle.tally.proofs.TestsLaws.{both-end}
+use Rattle.tally.proofs.TestsLaws.{all-fails, both-end}
+use Rattle.writer.specs.Rules.{tableRules}
 use Rattle.writer.proofs.RulesLaws.{most-table}
 use Rattle.writer.proofs.sound.table_sound.Statement.{statement}
 use Rattle.writer.proofs.sound.table_sound.Tie as tie
 
 returns : tie.Need-returns
-returns c = rw (lt-leb 1 (c .before .args .n) (c .if1 .taken))
+returns c =
+    let a = c .before .args in
+    sym (all-fails (tableRules (a .n) (a .m) (a .a)) 0 (lt-leb 1 (a .n) (c .if1 .taken)))
 
 returns-2 : tie.Need-returns-2
-returns-2 c = rw (le-leb 1 (c .before .before .args .n) (c .before .if1 .left), lt-leb (c .before .before .args .n) 4 (c .if2 .taken))
+returns-2 c =
+    let a = c .before .before .args in
+    sym (all-fails (tableRules (a .n) (a .m) (a .a)) 1 (lt-leb (a .n) 4 (c .if2 .taken)))
 
 returns-3 : tie.Need-returns-3
 returns-3 c =
-    let c1 = c .before in
-    let c2 = c1 .before in
-    let c3 = c2 .before in
-    rw (le-leb 1 (c3 .args .n) (c2 .if1 .left), le-leb (c3 .args .n) 4 (c1 .if2 .left), lt-leb 1 (c3 .args .m) (c .if3 .taken))
+    let a = c .before .before .before .args in
+    sym (all-fails (tableRules (a .n) (a .m) (a .a)) 2 (lt-leb 1 (a .m) (c .if3 .taken)))
 
 returns-4 : tie.Need-returns-4
 returns-4 c =
-    let c1 = c .before in
-    let c2 = c1 .before in
-    let c3 = c2 .before in
-    let c4 = c3 .before in
-    rw (le-leb 1 (c4 .args .n) (c3 .if1 .left), le-leb (c4 .args .n) 4 (c2 .if2 .left), le-leb 1 (c4 .args .m) (c1 .if3 .left), lt-leb (c4 .args .m) 4 (c .if4 .taken))
+    let a = c .before .before .before .before .args in
+    sym (all-fails (tableRules (a .n) (a .m) (a .a)) 3 (lt-leb (a .m) 4 (c .if4 .taken)))
 
 returns-5 : tie.Need-returns-5
 returns-5 c =
-    let c1 = c .before in
-    let c2 = c1 .before in
-    let c3 = c2 .before in
-    let c4 = c3 .before in
-    let c5 = c4 .before in
-    rw (le-leb 1 (c5 .args .n) (c4 .if1 .left), le-leb (c5 .args .n) 4 (c3 .if2 .left), le-leb 1 (c5 .args .m) (c2 .if3 .left), le-leb (c5 .args .m) 4 (c1 .if4 .left), ne-eqb (c5 .args .a % 6) 0 (c .if5 .taken))
+    let a = c .before .before .before .before .before .args in
+    sym (all-fails (tableRules (a .n) (a .m) (a .a)) 4 (ne-eqb (a .a % 6) 0 (c .if5 .taken)))
 
 sub-result : tie.Need-sub-result
 sub-result c = search needs
