@@ -1,7 +1,7 @@
 -- Laws of the extent: one of the first three TLVs by what its header is, and a valid LLDPDU as a record of facts.
 -- `good` and `reads` pass between the answer and the facts, so that later laws build or take apart a `Good` and nothing else.
-use Prim.Native.Nat.{ℕ, _+_, _-_, _≤_}
-use mathlib.Core.Path.{_≡_, refl, sym, ap₂, _∙_}
+use Prim.Native.Nat.{ℕ, _+_, _≤_}
+use mathlib.Core.Path.{_≡_, refl, sym, ap, ap₂, _∙_}
 use mathlib.Core.List.{List, [], _∷_}
 use mathlib.Core.Bool.{Bool, true, false}
 use native.Mathlib.Omega.{arith}
@@ -22,16 +22,20 @@ use Rattle.lldpdu.specs.declared.extent.Extent.the-variants.{Refused, Oc
 
 -- One of the first three
 
-module _ (h : Head) (ok : ℕ → ℕ → Bool) (next : Extent) where
-  pub need-short : h ≡ Short → need h ok next ≡ Refused 5
-  need-short e = rw e
+-- by what the code has of the header h, and of its test
+module _ {h r : Head} (p : r ≡ h) where
+  pub need-short : (ok : ℕ → ℕ → Bool) (next : Extent) → r ≡ Short → Refused 5 ≡ need h ok next
+  need-short ok next e = rw (sym p ∙ e)
 
-  module _ {kind len : ℕ} (e : h ≡ Whole kind len) where
-    pub need-good : ok kind len ≡ true → need h ok next ≡ next
-    need-good t = rw (e, t)
+  module _ {kind len : ℕ} (e : r ≡ Whole kind len) where
+    pub need-whole : (ok : ℕ → ℕ → Bool) (next : Extent) {t b : Bool} → t ≡ ok kind len → t ≡ b
+        → pick b next (Refused 4) ≡ need h ok next
+    need-whole ok next q i = rw (sym p ∙ e, sym q ∙ i)
 
-    pub need-bad : ok kind len ≡ false → need h ok next ≡ Refused 4
-    need-bad t = rw (e, t)
+    -- the same where the test asks for a subtype u
+    pub need-subtype : (ok : ℕ → ℕ → ℕ → Bool) (next : Extent) {u v : ℕ} {t b : Bool} → v ≡ u → t ≡ ok v kind len → t ≡ b
+        → pick b next (Refused 4) ≡ need h (ok u) next
+    need-subtype ok next {u} g q i = need-whole (ok u) next (q ∙ ap (λ (x : ℕ). ok x kind len) g) i
 
 pub not-both : {A : Type 0} {n e : ℕ} → Refused n ≡ Octets e → A
 not-both q = let z : _≡_ {A = ℕ} 0 1 = cc in absurd (omega arith)

@@ -9,18 +9,18 @@ use Rattle.fields.proofs.description.Tie as tie
 
 returns : tie.Need-returns
 unfolding descriptionOf
-returns c = rw (lt-leb _ _ (c .if1 .taken))
+returns c = rw (lt-leb _ 255 (c .if1 .taken))
 
 is-text-requires : tie.Need-is-text-requires
 is-text-requires c κs = search needs
 
 returns-2 : tie.Need-returns-2
 unfolding descriptionOf
-returns-2 c = rw (le-leb _ _ (c .before .before .if1 .left), sym (c .before .is-text .ensures) ∙ c .if2 .taken)
+returns-2 c = rw (le-leb _ 255 (c .before .before .if1 .left), sym (c .before .is-text .ensures) ∙ c .if2 .taken)
 
 returns-3 : tie.Need-returns-3
 unfolding descriptionOf
-returns-3 c = rw (le-leb _ _ (c .before .before .if1 .left), sym (c .before .is-text .ensures) ∙ c .if2 .left)
+returns-3 c = rw (le-leb _ 255 (c .before .before .if1 .left), sym (c .before .is-text .ensures) ∙ c .if2 .left)
 
 pub description-spec : {M : Type 1} → statement M
 description-spec = tie.close (tie.spec returns is-text-requires returns-2 returns-3)

@@ -5,10 +5,10 @@ use Rattle.fields.proofs.one_to_four.Statement.{statement}
 use Rattle.fields.proofs.one_to_four.Tie as tie
 
 returns : tie.Need-returns
-returns c = rw (lt-leb _ _ (c .if1 .taken))
+returns c = rw (lt-leb 1 _ (c .if1 .taken))
 
 returns-2 : tie.Need-returns-2
-returns-2 c = rw (le-leb _ _ (c .if1 .left))
+returns-2 c = rw (le-leb 1 _ (c .if1 .left))
 
 pub one-to-four-spec : {M : Type 1} → statement M
 one-to-four-spec = tie.close (tie.spec returns returns-2)

@@ -1,11 +1,10 @@
 -- `lldpdu::extent::behind_chassis` meets its contract: TLV 2, then what is behind it.
--- The laws are need-short, need-good and need-bad of ExtentLaws.
-use Prim.Native.Nat.{ℕ}
-use mathlib.Core.Path.{sym, ap, _∙_}
+-- The laws are need-short and need-subtype of ExtentLaws.
+use mathlib.Core.Path.{sym, _∙_}
 use denote.Ref.{now}
 use borrow.Author.Needs.{needs}
 use Rattle.lldpdu.specs.Extent.{portOk, behindChassis}
-use Rattle.lldpdu.proofs.ExtentLaws.{need-short, need-good, need-bad, port-length, port-short}
+use Rattle.lldpdu.proofs.ExtentLaws.{need-short, need-subtype, port-length, port-short}
 use Rattle.lldpdu.proofs.extent.behind_chassis.Statement.{statement}
 use Rattle.lldpdu.proofs.extent.behind_chassis.Tie as tie
 
@@ -26,25 +25,28 @@ port-fits-requires c κs = search needs
 
 behind-port-requires : tie.Need-behind-port-requires
 behind-port-requires c κs =
-    let k = c .before .before .before .before .kind .given .0 .0 in
-    let n = c .before .before .before .before .kind .given .0 .1 .0 in
-    (port-length (now (c .before .before .before .before .before .before .before .before .args .s)) (sym (c .before .before .before .before .before .before .head-at .ensures) ∙ c .before .before .before .before .kind .given .1), port-short (c .before .before .octet .result) k n (sym (c .before .port-fits .ensures) ∙ c .if1 .taken) .1)
+    let c1 = c .before .before .before .before in
+    let c2 = c1 .before .before in
+    let g = c1 .kind .given in
+    (port-length (now (c2 .before .before .args .s)) (sym (c2 .head-at .ensures) ∙ g .1), port-short (c .before .before .octet .result) (g .0 .0) (g .0 .1 .0) (sym (c .before .port-fits .ensures) ∙ c .if1 .taken) .1)
 
 returns : tie.Need-returns
 unfolding behindChassis
-returns c = sym (need-short _ _ _ (sym (c .before .before .head-at .ensures) ∙ c .enum-told .given .1))
+returns c = need-short (c .before .before .head-at .ensures) _ _ (c .enum-told .given .1)
 
 returns-2 : tie.Need-returns-2
 unfolding behindChassis
 returns-2 c =
-    let fits = ap (λ (u : ℕ). portOk u (c .before .before .before .before .before .kind .given .0 .0) (c .before .before .before .before .before .kind .given .0 .1 .0)) (sym (c .before .before .before .octet .ensures)) ∙ sym (c .before .before .port-fits .ensures) ∙ c .before .if1 .taken in
-    c .behind-port .ensures ∙ sym (need-good _ _ _ (sym (c .before .before .before .before .before .before .before .head-at .ensures) ∙ c .before .before .before .before .before .kind .given .1) fits)
+    let c1 = c .before .before .before in
+    let c2 = c1 .before .before in
+    c .behind-port .ensures ∙ need-subtype (c2 .before .before .head-at .ensures) (c2 .kind .given .1) portOk _ (c1 .octet .ensures) (c .before .before .port-fits .ensures) (c .before .if1 .taken)
 
 returns-3 : tie.Need-returns-3
 unfolding behindChassis
 returns-3 c =
-    let fits = ap (λ (u : ℕ). portOk u (c .before .before .before .before .kind .given .0 .0) (c .before .before .before .before .kind .given .0 .1 .0)) (sym (c .before .before .octet .ensures)) ∙ sym (c .before .port-fits .ensures) ∙ c .if1 .left in
-    sym (need-bad _ _ _ (sym (c .before .before .before .before .before .before .head-at .ensures) ∙ c .before .before .before .before .kind .given .1) fits)
+    let c1 = c .before .before in
+    let c2 = c1 .before .before in
+    need-subtype (c2 .before .before .head-at .ensures) (c2 .kind .given .1) portOk _ (c1 .octet .ensures) (c .before .port-fits .ensures) (c .if1 .left)
 
 pub behind-chassis-spec : {M : Type 1} → statement M
 behind-chassis-spec =

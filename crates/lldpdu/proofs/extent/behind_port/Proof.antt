@@ -1,10 +1,11 @@
 -- `lldpdu::extent::behind_port` meets its contract: TLV 3, then the walk.
--- The laws are need-short, need-good and need-bad of ExtentLaws.
+-- The laws are need-short and need-whole of ExtentLaws.
 use mathlib.Core.Path.{sym, _∙_}
 use native.Mathlib.Omega.{arith}
 use denote.Ref.{now}
 use borrow.Author.Needs.{needs}
-use Rattle.lldpdu.proofs.ExtentLaws.{need-short, need-good, need-bad, behind-port}
+use Rattle.lldpdu.specs.Extent.{secondsOk}
+use Rattle.lldpdu.proofs.ExtentLaws.{need-short, need-whole, behind-port}
 use Rattle.lldpdu.proofs.extent.behind_port.Statement.{statement}
 use Rattle.lldpdu.proofs.extent.behind_port.Tie as tie
 
@@ -30,15 +31,24 @@ rest-extent-requires : tie.Need-rest-extent-requires
 rest-extent-requires c κs = search needs
 
 returns : tie.Need-returns
-returns c = sym (behind-port (now (c .before .before .before .before .args .s)) (c .before .before .before .before .pre .0) ∙ need-short _ _ _ (sym (c .before .before .head-at .ensures) ∙ c .enum-told .given .1))
+returns c =
+    let c1 = c .before .before in
+    let c2 = c1 .before .before in
+    need-short (c1 .head-at .ensures) _ _ (c .enum-told .given .1) ∙ sym (behind-port (now (c2 .args .s)) (c2 .pre .0))
 
 returns-2 : tie.Need-returns-2
 returns-2 c =
-    c .rest-extent .ensures
-    ∙ sym (behind-port (now (c .before .before .before .before .before .before .before .before .args .s)) (c .before .before .before .before .before .before .before .before .pre .0) ∙ need-good _ _ _ (sym (c .before .before .before .before .before .before .head-at .ensures) ∙ c .before .before .before .before .kind .given .1) (sym (c .before .before .seconds-fit .ensures) ∙ c .before .if1 .taken))
+    let c1 = c .before .before .before .before in
+    let c2 = c1 .before .before in
+    let c3 = c2 .before .before in
+    c .rest-extent .ensures ∙ need-whole (c2 .head-at .ensures) (c1 .kind .given .1) secondsOk _ (c .before .before .seconds-fit .ensures) (c .before .if1 .taken) ∙ sym (behind-port (now (c3 .args .s)) (c3 .pre .0))
 
 returns-3 : tie.Need-returns-3
-returns-3 c = sym (behind-port (now (c .before .before .before .before .before .before .before .args .s)) (c .before .before .before .before .before .before .before .pre .0) ∙ need-bad _ _ _ (sym (c .before .before .before .before .before .head-at .ensures) ∙ c .before .before .before .kind .given .1) (sym (c .before .seconds-fit .ensures) ∙ c .if1 .left))
+returns-3 c =
+    let c1 = c .before .before .before in
+    let c2 = c1 .before .before in
+    let c3 = c2 .before .before in
+    need-whole (c2 .head-at .ensures) (c1 .kind .given .1) secondsOk _ (c .before .seconds-fit .ensures) (c .if1 .left) ∙ sym (behind-port (now (c3 .args .s)) (c3 .pre .0))
 
 pub behind-port-spec : {M : Type 1} → statement M
 behind-port-spec =

@@ -1,10 +1,9 @@
 -- `lldpdu::extent::extent_of` meets its contract: TLV 1, then what is behind it.
--- The laws are need-short, need-good and need-bad of ExtentLaws.
-use Prim.Native.Nat.{ℕ}
-use mathlib.Core.Path.{sym, ap, _∙_}
+-- The laws are need-short and need-subtype of ExtentLaws.
+use mathlib.Core.Path.{_∙_}
 use borrow.Author.Needs.{needs}
 use Rattle.lldpdu.specs.Extent.{chassisOk, extentOf}
-use Rattle.lldpdu.proofs.ExtentLaws.{need-short, need-good, need-bad}
+use Rattle.lldpdu.proofs.ExtentLaws.{need-short, need-subtype}
 use Rattle.lldpdu.proofs.extent.extent_of.Statement.{statement}
 use Rattle.lldpdu.proofs.extent.extent_of.Tie as tie
 
@@ -28,19 +27,21 @@ behind-chassis-requires c κs = search needs
 
 returns : tie.Need-returns
 unfolding extentOf
-returns c = sym (need-short _ _ _ (sym (c .before .before .head-at .ensures) ∙ c .enum-told .given .1))
+returns c = need-short (c .before .before .head-at .ensures) _ _ (c .enum-told .given .1)
 
 returns-2 : tie.Need-returns-2
 unfolding extentOf
 returns-2 c =
-    let fits = ap (λ (u : ℕ). chassisOk u (c .before .before .before .before .before .kind .given .0 .0) (c .before .before .before .before .before .kind .given .0 .1 .0)) (sym (c .before .before .before .octet .ensures)) ∙ sym (c .before .before .chassis-fits .ensures) ∙ c .before .if1 .taken in
-    c .behind-chassis .ensures ∙ sym (need-good _ _ _ (sym (c .before .before .before .before .before .before .before .head-at .ensures) ∙ c .before .before .before .before .before .kind .given .1) fits)
+    let c1 = c .before .before .before in
+    let c2 = c1 .before .before in
+    c .behind-chassis .ensures ∙ need-subtype (c2 .before .before .head-at .ensures) (c2 .kind .given .1) chassisOk _ (c1 .octet .ensures) (c .before .before .chassis-fits .ensures) (c .before .if1 .taken)
 
 returns-3 : tie.Need-returns-3
 unfolding extentOf
 returns-3 c =
-    let fits = ap (λ (u : ℕ). chassisOk u (c .before .before .before .before .kind .given .0 .0) (c .before .before .before .before .kind .given .0 .1 .0)) (sym (c .before .before .octet .ensures)) ∙ sym (c .before .chassis-fits .ensures) ∙ c .if1 .left in
-    sym (need-bad _ _ _ (sym (c .before .before .before .before .before .before .head-at .ensures) ∙ c .before .before .before .before .kind .given .1) fits)
+    let c1 = c .before .before in
+    let c2 = c1 .before .before in
+    need-subtype (c2 .before .before .head-at .ensures) (c2 .kind .given .1) chassisOk _ (c1 .octet .ensures) (c .before .chassis-fits .ensures) (c .if1 .left)
 
 pub extent-of-spec : {M : Type 1} → statement M
 extent-of-spec =

@@ -40,11 +40,11 @@ returns-3 c =
 
 returns-4 : tie.Need-returns-4
 unfolding stepOf
-returns-4 c = rw (sym (c .before .before .before .before .before .head-at .ensures) ∙ c .before .before .before .kind .given .1, c .before .match2 .keys2, lt-ltb _ _ (c .if2 .taken))
+returns-4 c = rw (sym (c .before .before .before .before .before .head-at .ensures) ∙ c .before .before .before .kind .given .1, c .before .match2 .keys2, lt-ltb _ 4 (c .if2 .taken))
 
 returns-5 : tie.Need-returns-5
 unfolding stepOf
-returns-5 c = rw (sym (c .before .before .before .before .before .head-at .ensures) ∙ c .before .before .before .kind .given .1, c .before .match2 .keys2, le-ltb _ _ (c .if2 .left))
+returns-5 c = rw (sym (c .before .before .before .before .before .head-at .ensures) ∙ c .before .before .before .kind .given .1, c .before .match2 .keys2, le-ltb _ 4 (c .if2 .left))
 
 returns-6 : tie.Need-returns-6
 unfolding stepOf

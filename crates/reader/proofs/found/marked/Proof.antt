@@ -7,7 +7,7 @@ use Rattle.reader.proofs.found.marked.Tie as tie
 
 returns : tie.Need-returns
 unfolding markedAt
-returns c = rw (eq-eqb _ _ (c .if1 .taken))
+returns c = rw (eq-eqb _ 0 (c .if1 .taken))
 
 returns-2 : tie.Need-returns-2
 unfolding markedAt

@@ -15,11 +15,11 @@ use Rattle.reader.proofs.frame.frame_fits.Tie as tie
 
 returns : tie.Need-returns
 unfolding frameOk
-returns c = rw (lt-leb _ _ (c .if1 .taken))
+returns c = rw (lt-leb 14 _ (c .if1 .taken))
 
 returns-2 : tie.Need-returns-2
 unfolding frameOk
-returns-2 c = rw (le-leb _ _ (c .before .if1 .left), lt-leb _ _ (c .if2 .taken))
+returns-2 c = rw (le-leb 14 _ (c .before .if1 .left), lt-leb _ 1514 (c .if2 .taken))
 
 octet-requires : tie.Need-octet-requires
 octet-requires c κs = search needs
@@ -28,7 +28,7 @@ returns-3 : tie.Need-returns-3
 unfolding frameOk
 returns-3 c =
     let f = now (c .before .before .before .before .before .args .f) in
-    rw (le-leb _ _ (c .before .before .before .if1 .left), le-leb _ _ (c .before .before .if2 .left), ne-eqb (getD f 12 0) 0x88 (λ e. c .if3 .taken (c .before .octet .ensures ∙ e)))
+    rw (le-leb 14 _ (c .before .before .before .if1 .left), le-leb _ 1514 (c .before .before .if2 .left), ne-eqb (getD f 12 0) 0x88 (λ e. c .if3 .taken (c .before .octet .ensures ∙ e)))
 
 octet-requires-2 : tie.Need-octet-requires-2
 octet-requires-2 c κs = search needs
@@ -38,8 +38,8 @@ unfolding frameOk
 returns-4 c =
     let f = now (c .before .before .before .before .before .before .before .args .f) in
     rw (
-      le-leb _ _ (c .before .before .before .before .before .if1 .left),
-      le-leb _ _ (c .before .before .before .before .if2 .left),
+      le-leb 14 _ (c .before .before .before .before .before .if1 .left),
+      le-leb _ 1514 (c .before .before .before .before .if2 .left),
       eq-eqb (getD f 12 0) 0x88 (sym (c .before .before .before .octet .ensures) ∙ c .before .before .if3 .left),
       ne-eqb (getD f 13 0) 0xCC (λ e. c .if4 .taken (c .before .octet2 .ensures ∙ e)),
     )
@@ -55,8 +55,8 @@ unfolding frameOk
 returns-5 c =
     let f = now (c .before .before .before .before .before .before .before .before .before .before .args .f) in
     rw (
-      le-leb _ _ (c .before .before .before .before .before .before .before .before .if1 .left),
-      le-leb _ _ (c .before .before .before .before .before .before .before .if2 .left),
+      le-leb 14 _ (c .before .before .before .before .before .before .before .before .if1 .left),
+      le-leb _ 1514 (c .before .before .before .before .before .before .before .if2 .left),
       eq-eqb (getD f 12 0) 0x88 (sym (c .before .before .before .before .before .before .octet .ensures) ∙ c .before .before .before .before .before .if3 .left),
       eq-eqb (getD f 13 0) 0xCC (sym (c .before .before .before .before .octet2 .ensures) ∙ c .before .before .before .if4 .left),
       ap (λ (a : List ℕ). sameOctets a everyone) (sym (c .before .before .six .ensures)) ∙ sym (c .before .same-six .ensures) ∙ c .if5 .taken,
@@ -73,8 +73,8 @@ unfolding frameOk
 returns-6 c =
     let f = now (c .before .before .before .before .before .before .before .before .before .before .before .before .args .f) in
     rw (
-      le-leb _ _ (c .before .before .before .before .before .before .before .before .before .before .if1 .left),
-      le-leb _ _ (c .before .before .before .before .before .before .before .before .before .if2 .left),
+      le-leb 14 _ (c .before .before .before .before .before .before .before .before .before .before .if1 .left),
+      le-leb _ 1514 (c .before .before .before .before .before .before .before .before .before .if2 .left),
       eq-eqb (getD f 12 0) 0x88 (sym (c .before .before .before .before .before .before .before .before .octet .ensures) ∙ c .before .before .before .before .before .before .before .if3 .left),
       eq-eqb (getD f 13 0) 0xCC (sym (c .before .before .before .before .before .before .octet2 .ensures) ∙ c .before .before .before .before .before .if4 .left),
       ap (λ (a : List ℕ). sameOctets a everyone) (sym (c .before .before .before .before .six .ensures)) ∙ sym (c .before .before .before .same-six .ensures) ∙ c .before .before .if5 .left,
