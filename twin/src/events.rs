@@ -12,51 +12,28 @@ mod maker;
 mod random;
 mod spoils;
 
+use crate::frames::two_octets;
 use crate::reader::Address;
 use desk::Desk;
 use maker::Maker;
 pub use spoils::Way;
 
+/// The six calls, then what spoils and tries a table. From a Lend on, the buffer given is the first
+/// so many octets of the store.
 #[derive(Clone, Debug, PartialEq, Eq)]
 pub enum Event {
     Start,
-    Frame {
-        port: usize,
-        frame: Vec<u8>,
-    },
+    Frame { port: usize, frame: Vec<u8> },
     Seconds(u16),
-    Lost {
-        port: usize,
-    },
-    HowMany {
-        port: usize,
-    },
-    WhoSees {
-        address: Address,
-        from: usize,
-    },
-    /// From now on the buffer given is the first so many octets of the store.
+    Lost { port: usize },
+    HowMany { port: usize },
+    WhoSees { address: Address, from: usize },
     Lend(usize),
-    SetPort {
-        place: usize,
-        port: u8,
-    },
-    SetSeconds {
-        place: usize,
-        seconds: u16,
-    },
-    SetLength {
-        place: usize,
-        length: u16,
-    },
-    SetOctet {
-        at: usize,
-        octet: u8,
-    },
-    CopyPlace {
-        from: usize,
-        to: usize,
-    },
+    SetPort { place: usize, port: u8 },
+    SetSeconds { place: usize, seconds: u16 },
+    SetLength { place: usize, length: u16 },
+    SetOctet { at: usize, octet: u8 },
+    CopyPlace { from: usize, to: usize },
     Keep,
     Spoiled(Trial),
 }
@@ -109,8 +86,8 @@ pub fn case_file(events: &[Event]) -> Vec<u8> {
 
 fn record(kind: u8, number: usize, value: u16, address: Address, octets: &[u8]) -> Vec<u8> {
     let number = (number as u64).to_be_bytes();
-    let length = u16::try_from(octets.len()).expect("a frame here has at most 2,000 octets");
-    [&[kind], &number[..], &value.to_be_bytes(), &address, &length.to_be_bytes(), octets].concat()
+    let length = two_octets(octets.len());
+    [&[kind], &number[..], &value.to_be_bytes(), &address, &length, octets].concat()
 }
 
 /// The expected text: a line for each call and each spoiled table, with the number of its record
@@ -127,12 +104,13 @@ pub fn expected(events: &[Event]) -> String {
 }
 
 #[cfg(test)]
-mod tests {
+pub(crate) mod tests {
     use super::*;
     use crate::table::BUFFER_OCTETS;
     use std::sync::OnceLock;
 
-    fn stored() -> &'static (Vec<Event>, String) {
+    /// Made once for all tests, since the digests take their time.
+    pub fn stored() -> &'static (Vec<Event>, String) {
         static STORED: OnceLock<(Vec<Event>, String)> = OnceLock::new();
         STORED.get_or_init(|| {
             let events = events();
@@ -151,21 +129,12 @@ mod tests {
     }
 
     #[test]
-    fn the_events_are_the_same_each_time() {
-        assert!(events() == stored().0);
-    }
-
-    #[test]
-    fn the_files_have_the_promised_sizes() {
+    fn there_are_as_many_calls_as_promised() {
         let (events, text) = stored();
-        let file = case_file(events).len();
         let spoiled = events.iter().filter(|event| matches!(event, Event::Spoiled(_))).count();
         let calls = text.lines().count() - spoiled;
         println!("{} records, {calls} calls, {spoiled} spoiled tables", events.len());
-        println!("{file} octets of cases, {} octets of text", text.len());
         assert!(calls >= 3_000);
-        assert!(file <= 2_000_000);
-        assert!(text.len() <= 900_000);
     }
 
     /// A rule that hardly ever decides would hardly be compared.

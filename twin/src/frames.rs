@@ -10,6 +10,7 @@ use crate::reader::{
     name_link, outline_frame, outline_lldpdu, read_frame, read_lldpdu, Address, Naming, Outline,
     Reading, Refusal,
 };
+use crate::rng::{self, Rng};
 use blocks::HEADER;
 use maker::Maker;
 
@@ -28,7 +29,7 @@ pub struct Case {
 
 /// All cases, always the same ones.
 pub fn cases() -> Vec<Case> {
-    let mut maker = Maker::new();
+    let mut maker = Maker { rng: Rng::new(rng::FRAMES), cases: vec![] };
     maker.rules();
     maker.random();
     maker.cases
@@ -43,11 +44,15 @@ pub fn case_file(cases: &[Case]) -> Vec<u8> {
             Kind::Bare => 1,
         });
         file.extend(case.asked);
-        let length = u16::try_from(case.octets.len()).expect("a case has at most 2,000 octets");
-        file.extend(length.to_be_bytes());
+        file.extend(two_octets(case.octets.len()));
         file.extend(&case.octets);
     }
     file
+}
+
+/// A length or a room, its high octet first.
+pub(crate) fn two_octets(number: usize) -> [u8; 2] {
+    u16::try_from(number).expect("cases have at most 2,000 octets").to_be_bytes()
 }
 
 /// The expected text: three lines for each case, numbered from 1.
@@ -142,12 +147,7 @@ mod tests {
     use super::*;
 
     #[test]
-    fn the_cases_are_the_same_each_time() {
-        assert!(cases() == cases());
-    }
-
-    #[test]
-    fn the_files_have_the_promised_sizes() {
+    fn there_are_as_many_cases_as_promised() {
         let cases = cases();
         let frames = cases.iter().filter(|case| case.kind == Kind::Frame).count();
         let bare = cases.len() - frames;
@@ -155,8 +155,6 @@ mod tests {
         assert!((2400..=2800).contains(&cases.len()));
         assert!(frames >= 2100);
         assert!(bare >= 200);
-        assert!(case_file(&cases).len() <= 600_000);
-        assert!(expected(&cases).len() <= 1_300_000);
     }
 
     /// A rule that hardly ever decides would hardly be compared.

@@ -4,7 +4,56 @@
 pub mod announcements;
 pub mod events;
 pub mod frames;
+mod numbers;
 pub mod reader;
 pub mod rng;
 pub mod table;
 pub mod writer;
+
+/// The case file of a kind and the text that is expected for it; none where there is no such kind.
+pub fn files(kind: &str) -> Option<(Vec<u8>, String)> {
+    match kind {
+        "frames" => {
+            let cases = frames::cases();
+            Some((frames::case_file(&cases), frames::expected(&cases)))
+        }
+        "announcements" => {
+            let cases = announcements::cases();
+            Some((announcements::case_file(&cases), announcements::expected(&cases)))
+        }
+        "events" => {
+            let events = events::events();
+            Some((events::case_file(&events), events::expected(&events)))
+        }
+        _ => None,
+    }
+}
+
+#[cfg(test)]
+mod tests {
+    use super::*;
+
+    #[test]
+    fn the_cases_are_the_same_each_time() {
+        assert!(frames::cases() == frames::cases());
+        assert!(announcements::cases() == announcements::cases());
+        assert!(events::events() == events::tests::stored().0);
+    }
+
+    #[test]
+    fn the_files_have_the_promised_sizes() {
+        let [frames, announcements] =
+            ["frames", "announcements"].map(|kind| files(kind).expect("there is such a kind"));
+        let (events, text_of_events) = events::tests::stored();
+        let sizes = [
+            (frames.0.len(), 600_000),
+            (frames.1.len(), 1_300_000),
+            (announcements.0.len(), 400_000),
+            (announcements.1.len(), 1_500_000),
+            (events::case_file(events).len(), 2_000_000),
+            (text_of_events.len(), 900_000),
+        ];
+        println!("octets of cases and of text, and the most there may be: {sizes:?}");
+        assert!(sizes.iter().all(|(octets, most)| octets <= most));
+    }
+}

@@ -7,7 +7,7 @@ use std::fs;
 use std::path::Path;
 use std::process::ExitCode;
 
-use twin::{announcements, events, frames};
+use twin::files;
 
 const USAGE: &str = "\
 usage: twin frames DIR          write the reader's cases to DIR/frames
@@ -24,31 +24,17 @@ fn main() -> ExitCode {
             println!("{USAGE}");
             ExitCode::SUCCESS
         }
-        [Some("frames"), _] => {
-            let cases = frames::cases();
-            let expected = frames::expected(&cases);
-            write_files(&arguments[1], "frames", &frames::case_file(&cases), &expected)
-        }
-        [Some("announcements"), _] => {
-            let cases = announcements::cases();
-            let expected = announcements::expected(&cases);
-            write_files(
-                &arguments[1],
-                "announcements",
-                &announcements::case_file(&cases),
-                &expected,
-            )
-        }
-        [Some("events"), _] => {
-            let events = events::events();
-            let expected = events::expected(&events);
-            write_files(&arguments[1], "events", &events::case_file(&events), &expected)
-        }
-        _ => {
-            eprintln!("{USAGE}");
-            ExitCode::from(2)
-        }
+        [Some(kind), _] => match files(kind) {
+            Some((case_file, expected)) => write_files(&arguments[1], kind, &case_file, &expected),
+            None => misused(),
+        },
+        _ => misused(),
     }
+}
+
+fn misused() -> ExitCode {
+    eprintln!("{USAGE}");
+    ExitCode::from(2)
 }
 
 fn write_files(directory: &OsStr, name: &str, case_file: &[u8], expected: &str) -> ExitCode {

@@ -3,6 +3,8 @@
 
 use std::ops::RangeInclusive;
 
+use crate::numbers::*;
+
 /// A refusal number: 3 to 6 for a frame, 4 to 6 for a bare LLDPDU (A1). The table adds 1, 2, 7 and
 /// 8, the writer 9 and 10.
 pub type Refusal = u8;
@@ -19,21 +21,6 @@ const LONGEST_DESCRIPTION: usize = 255;
 const EVERYONE: Address = [0xFF; 6];
 const LLDP_GROUP: Address = [0x01, 0x80, 0xC2, 0x00, 0x00, 0x0E];
 const LLDP_TYPE: [u8; 2] = [0x88, 0xCC];
-
-const END: u8 = 0;
-const CHASSIS: u8 = 1;
-const PORT: u8 = 2;
-const SECONDS: u8 = 3;
-const DESCRIPTION: u8 = 4;
-const ORGANIZATION: u8 = 127;
-
-const TTC: [u8; 3] = [0xE0, 0x27, 0x1A];
-
-const CATEGORY: u8 = 1;
-const MANUFACTURER: u8 = 2;
-const MODEL_NAME: u8 = 3;
-const MODEL_NUMBER: u8 = 4;
-const VENDOR: u8 = 255;
 
 /// What every valid LLDPDU has (A1).
 #[derive(Clone, Debug, PartialEq, Eq)]
@@ -259,12 +246,14 @@ impl Field {
     fn of(tlv: &Tlv) -> Field {
         let well_formed = match (tlv.kind, tlv.value.as_slice()) {
             (DESCRIPTION, text) => description_of(text),
-            (ORGANIZATION, [a, b, c, subtype, body @ ..]) if [*a, *b, *c] == TTC => match subtype {
-                1 => device_of(body),
-                2 => link_of(body).map(Field::Link),
-                3 => addresses_of(body).map(Field::List),
-                _ => Some(Field::Skipped),
-            },
+            (ORGANIZATION, [a, b, c, subtype, body @ ..]) if [*a, *b, *c] == TTC => {
+                match *subtype {
+                    DEVICE => device_of(body),
+                    LINK => link_of(body).map(Field::Link),
+                    LIST => addresses_of(body).map(Field::List),
+                    _ => Some(Field::Skipped),
+                }
+            }
             _ => Some(Field::Skipped),
         };
         well_formed.unwrap_or(Field::Malformed)

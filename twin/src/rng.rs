@@ -1,6 +1,11 @@
 //! A small seeded generator (splitmix64), so that the cases are the same on every machine.
 //! It is no source of secrets; it only has to be short and repeatable.
 
+/// One seed for each kind of cases, fixed so that the files never change by themselves.
+pub const FRAMES: u64 = 0x4C4C_4450_4854_4950;
+pub const ANNOUNCEMENTS: u64 = 0x414E_4E4F_554E_4345;
+pub const EVENTS: u64 = 0x4E45_4947_4842_5253;
+
 pub struct Rng {
     state: u64,
 }
@@ -41,8 +46,17 @@ impl Rng {
         (0..count).map(|_| self.octet()).collect()
     }
 
+    pub fn address(&mut self) -> [u8; 6] {
+        [0; 6].map(|_: u8| self.octet())
+    }
+
     pub fn pick<T: Copy>(&mut self, among: &[T]) -> T {
         among[self.below(among.len())]
+    }
+
+    /// That many, each of them any of the list.
+    pub fn picks<T: Copy>(&mut self, among: &[T], count: usize) -> Vec<T> {
+        (0..count).map(|_| self.pick(among)).collect()
     }
 
     pub fn shuffle<T>(&mut self, list: &mut [T]) {

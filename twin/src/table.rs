@@ -108,7 +108,7 @@ impl Table {
         match (outline.seconds, known) {
             (0, None) => Ok(Reply::UnknownGoodbye),
             (0, Some(place)) => {
-                self.free(buffer, place);
+                self.clear(buffer, place);
                 Ok(Reply::Gone)
             }
             (seconds, Some(place)) => {
@@ -131,7 +131,7 @@ impl Table {
                 self.seconds[place] -= seconds;
             } else {
                 // A free place is freed again, which changes nothing.
-                self.free(buffer, place);
+                self.clear(buffer, place);
             }
         }
         Ok(())
@@ -144,7 +144,7 @@ impl Table {
         for place in 0..PLACES {
             if usize::from(self.port[place]) == port {
                 // Free places have port 0; to free them again changes nothing.
-                self.free(buffer, place);
+                self.clear(buffer, place);
             }
         }
         Ok(())
@@ -175,6 +175,10 @@ impl Table {
     /// The places that are not free (N4).
     pub fn used(&self) -> impl Iterator<Item = usize> + '_ {
         (0..PLACES).filter(|&place| self.length[place] != 0)
+    }
+
+    pub fn free(&self) -> impl Iterator<Item = usize> + '_ {
+        (0..PLACES).filter(|&place| self.length[place] == 0)
     }
 
     pub fn held(&self, port: usize) -> usize {
@@ -208,7 +212,7 @@ impl Table {
     }
 
     fn free_places_are_clear(&self, buffer: &[u8]) -> bool {
-        (0..PLACES).filter(|&place| self.length[place] == 0).all(|place| {
+        self.free().all(|place| {
             self.port[place] == 0
                 && self.seconds[place] == 0
                 && buffer[octets_of(place)].iter().all(|&octet| octet == 0)
@@ -252,8 +256,7 @@ impl Table {
         if held >= SURE && self.common_taken() >= COMMON {
             return Err(COMMON_TAKEN);
         }
-        let free = (0..PLACES).find(|&place| self.length[place] == 0);
-        Ok(free.expect("sure and common places are not all taken"))
+        Ok(self.free().next().expect("sure and common places are not all taken"))
     }
 
     /// The LLDPDU through its End, then zeros (N3).
@@ -267,7 +270,7 @@ impl Table {
     }
 
     /// Numbers 0 and octets 0 (N4).
-    fn free(&mut self, buffer: &mut [u8], place: usize) {
+    fn clear(&mut self, buffer: &mut [u8], place: usize) {
         self.put(buffer, place, 0, 0, &[]);
     }
 }

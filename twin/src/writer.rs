@@ -1,6 +1,7 @@
 //! The writer: a description, its strings being parts of a text, becomes an LLDPDU or a refusal.
 //! The LLDPDU is put together whole and only then held against the room, so that 9 comes before 10.
 
+use crate::numbers::*;
 use crate::reader::{Address, Refusal};
 
 const BREAKS_A_RULE: Refusal = 9;
@@ -8,17 +9,6 @@ const NO_ROOM: Refusal = 10;
 
 const LONGEST_LLDPDU: usize = 1500;
 const LONGEST_VALUE: usize = 511;
-
-const END: u8 = 0;
-const CHASSIS: u8 = 1;
-const PORT: u8 = 2;
-const SECONDS: u8 = 3;
-const WORDS: u8 = 4;
-const ORGANIZATION: u8 = 127;
-
-const DEVICE: u8 = 1;
-const LINK: u8 = 2;
-const LIST: u8 = 3;
 
 /// What is to be written. Its strings are parts of a text, or octets of their own; an absent string
 /// is empty (A2), but an absent table is not an empty one (A3).
@@ -147,10 +137,10 @@ fn later_tlvs(description: &Description<&[u8]>) -> Option<Vec<u8>> {
     };
     let tlvs = [
         if_any(description.words, words_tlv)?,
-        device_tlv(1, description.category, 255)?,
-        if_any(description.manufacturer, |string| device_tlv(2, string, 6))?,
-        if_any(description.model_name, |string| device_tlv(3, string, 31))?,
-        device_tlv(4, description.model_number, 31)?,
+        device_tlv(CATEGORY, description.category, 255)?,
+        if_any(description.manufacturer, |string| device_tlv(MANUFACTURER, string, 6))?,
+        if_any(description.model_name, |string| device_tlv(MODEL_NAME, string, 31))?,
+        device_tlv(MODEL_NUMBER, description.model_number, 31)?,
         link,
         list,
     ];
@@ -179,7 +169,7 @@ fn words_tlv(words: &[u8]) -> Option<Vec<u8>> {
     if words.len() > 255 || !words.iter().all(|&octet| may_be_in_words(octet)) {
         return None;
     }
-    tlv(WORDS, &[words])
+    tlv(DESCRIPTION, &[words])
 }
 
 fn may_be_in_words(octet: u8) -> bool {
@@ -216,7 +206,7 @@ fn count_of(addresses: &[u8]) -> Option<[u8; 1]> {
 
 /// A TLV of type 127 that belongs to TTC (T1).
 fn ttc_tlv(subtype: u8, body: &[&[u8]]) -> Option<Vec<u8>> {
-    tlv(ORGANIZATION, &[&[0xE0, 0x27, 0x1A, subtype], body.concat().as_slice()])
+    tlv(ORGANIZATION, &[&TTC, &[subtype], &body.concat()])
 }
 
 /// Seven bits of type, nine of length, and then the information string (L1), which has at most 511

@@ -1,20 +1,12 @@
 //! The bench frames P1 to P12 (B1 to B12) and the readings of open points, as ordinary tests.
 //! Octets and expected values are typed from the rules page by hand, never taken from the program.
 
+mod page;
+
+use page::{A, FRAME_A, HEADER};
 use twin::reader::*;
 
-/// Frame A of the rules page, 51 octets.
-const A: [u8; 51] = [
-    0xFF, 0xFF, 0xFF, 0xFF, 0xFF, 0xFF, 0x02, 0x00, 0x00, 0x00, 0x00, 0x01, 0x88,
-    0xCC, // header
-    0x02, 0x07, 0x04, 0x02, 0x00, 0x00, 0x00, 0x00, 0x01, // chassis
-    0x04, 0x02, 0x07, 0x31, // port ID
-    0x06, 0x02, 0x00, 0x78, // seconds
-    0xFE, 0x07, 0xE0, 0x27, 0x1A, 0x01, 0x01, 0x01, 0x41, // category
-    0xFE, 0x07, 0xE0, 0x27, 0x1A, 0x01, 0x04, 0x01, 0x37, // model number
-    0x00, 0x00, // End
-];
-
+/// Where the TLVs of frame A begin.
 const FIRST: usize = 14;
 const SECOND: usize = 23;
 const THIRD: usize = 27;
@@ -24,7 +16,7 @@ const END: usize = 49;
 
 /// Frame A with the octets from one place to another replaced.
 fn replaced(from: usize, to: usize, by: &[u8]) -> Vec<u8> {
-    [&A[..from], by, &A[to..]].concat()
+    [&FRAME_A[..from], by, &FRAME_A[to..]].concat()
 }
 
 /// Frame A with octets put before its End.
@@ -59,31 +51,31 @@ fn reading(frame: &[u8]) -> Reading {
 
 #[test]
 fn p1_a_is_valid_and_htip() {
-    assert_eq!(read_frame(&A), Ok(reading_of_a()));
-    assert_eq!(outline_frame(&A), Ok(reading_of_a().outline));
-    assert_eq!(read_lldpdu(&A[14..]), Ok(reading_of_a()));
-    assert_eq!(outline_lldpdu(&A[14..]), Ok(reading_of_a().outline));
+    assert_eq!(read_frame(&FRAME_A), Ok(reading_of_a()));
+    assert_eq!(outline_frame(&FRAME_A), Ok(reading_of_a().outline));
+    assert_eq!(read_lldpdu(&A), Ok(reading_of_a()));
+    assert_eq!(outline_lldpdu(&A), Ok(reading_of_a().outline));
 }
 
 #[test]
 fn p2_padding_changes_nothing() {
-    assert_eq!(read_frame(&[&A[..], &[0; 9]].concat()), Ok(reading_of_a()));
+    assert_eq!(read_frame(&[&FRAME_A[..], &[0; 9]].concat()), Ok(reading_of_a()));
 }
 
 #[test]
 fn p3_without_the_last_octet() {
-    assert_eq!(read_frame(&A[..50]), Err(5));
-    assert_eq!(outline_frame(&A[..50]), Err(5));
+    assert_eq!(read_frame(&FRAME_A[..50]), Err(5));
+    assert_eq!(outline_frame(&FRAME_A[..50]), Err(5));
 }
 
 #[test]
 fn p4_the_first_14_octets() {
-    assert_eq!(read_frame(&A[..14]), Err(5));
+    assert_eq!(read_frame(&FRAME_A[..14]), Err(5));
 }
 
 #[test]
 fn p5_the_first_13_octets() {
-    assert_eq!(read_frame(&A[..13]), Err(3));
+    assert_eq!(read_frame(&FRAME_A[..13]), Err(3));
 }
 
 #[test]
@@ -142,9 +134,9 @@ fn both_destinations_and_no_other() {
 
 #[test]
 fn the_longest_frame() {
-    let longest = [&A[..], &[0; 1514 - 51]].concat();
+    let longest = [&FRAME_A[..], &[0; 1514 - 51]].concat();
     assert_eq!(read_frame(&longest), Ok(reading_of_a()));
-    let too_long = [&A[..], &[0; 1515 - 51]].concat();
+    let too_long = [&FRAME_A[..], &[0; 1515 - 51]].concat();
     assert_eq!(read_frame(&too_long), Err(3));
     assert_eq!(read_lldpdu(&too_long[14..]), Ok(reading_of_a()));
 }
@@ -152,25 +144,25 @@ fn the_longest_frame() {
 #[test]
 fn end_in_place_of_a_leading_tlv() {
     for place in [FIRST, SECOND, THIRD] {
-        assert_eq!(read_frame(&[&A[..place], &[0x00, 0x00]].concat()), Err(4));
-        assert_eq!(read_frame(&A[..place]), Err(5));
+        assert_eq!(read_frame(&[&FRAME_A[..place], &[0x00, 0x00]].concat()), Err(4));
+        assert_eq!(read_frame(&FRAME_A[..place]), Err(5));
     }
 }
 
 #[test]
 fn running_out_goes_before_wrong_at_one_tlv() {
     // Type 5 in the first place, and its body is not all there (R11).
-    assert_eq!(read_frame(&[&A[..14], &[0x0A, 0x07, 0x04]].concat()), Err(5));
+    assert_eq!(read_frame(&[&HEADER[..], &[0x0A, 0x07, 0x04]].concat()), Err(5));
     // Type 127 with L = 3 as the last thing, with two octets of body.
-    assert_eq!(read_frame(&[&A[..END], &[0xFE, 0x03, 0xE0, 0x27]].concat()), Err(5));
+    assert_eq!(read_frame(&[&FRAME_A[..END], &[0xFE, 0x03, 0xE0, 0x27]].concat()), Err(5));
 }
 
 #[test]
 fn the_earlier_tlv_decides() {
     let wrong_third = [0x06, 0x01, 0x78];
-    assert_eq!(read_frame(&[&A[..THIRD], &wrong_third, &[0xFE]].concat()), Err(4));
+    assert_eq!(read_frame(&[&FRAME_A[..THIRD], &wrong_third, &[0xFE]].concat()), Err(4));
     let again = [0x06, 0x02, 0x00, 0x78];
-    assert_eq!(read_frame(&[&A[..END], &again, &[0xFE]].concat()), Err(6));
+    assert_eq!(read_frame(&[&FRAME_A[..END], &again, &[0xFE]].concat()), Err(6));
 }
 
 #[test]

@@ -1,24 +1,13 @@
 //! The table's rules N1 to N12, R1 to R12 and the run cases B13, as ordinary tests.
 //! Octets and expected values are typed from the rules page by hand, never taken from the program.
 
+mod page;
+
+use page::{A, HEADER};
 use twin::reader::{Counted, Naming, Refusal};
 use twin::table::{Reply, Sighting, Table};
 
 use Reply::{Gone, Recorded, Refreshed, UnknownGoodbye};
-
-/// The header of frame A.
-const HEADER: [u8; 14] =
-    [0xFF, 0xFF, 0xFF, 0xFF, 0xFF, 0xFF, 0x02, 0x00, 0x00, 0x00, 0x00, 0x01, 0x88, 0xCC];
-
-/// The LLDPDU of frame A, 37 octets.
-const A: [u8; 37] = [
-    0x02, 0x07, 0x04, 0x02, 0x00, 0x00, 0x00, 0x00, 0x01, // chassis
-    0x04, 0x02, 0x07, 0x31, // port ID
-    0x06, 0x02, 0x00, 0x78, // seconds
-    0xFE, 0x07, 0xE0, 0x27, 0x1A, 0x01, 0x01, 0x01, 0x41, // category
-    0xFE, 0x07, 0xE0, 0x27, 0x1A, 0x01, 0x04, 0x01, 0x37, // model number
-    0x00, 0x00, // End
-];
 
 /// Places of octets in A: the last of the chassis, the subtype and the octet of the port ID, and
 /// the two of the seconds.

@@ -1,18 +1,11 @@
 //! The writer's rules (W1 to W7, R9 to R12) and the readings of open points, as ordinary tests.
 //! Octets and expected values are typed from the rules page by hand, never taken from the program.
 
+mod page;
+
+use page::{A, HEADER};
 use twin::reader::{read_frame, read_lldpdu, Link};
 use twin::writer::*;
-
-/// The LLDPDU of frame A of the rules page, 37 octets.
-const A: [u8; 37] = [
-    0x02, 0x07, 0x04, 0x02, 0x00, 0x00, 0x00, 0x00, 0x01, // chassis
-    0x04, 0x02, 0x07, 0x31, // port ID
-    0x06, 0x02, 0x00, 0x78, // seconds
-    0xFE, 0x07, 0xE0, 0x27, 0x1A, 0x01, 0x01, 0x01, 0x41, // category
-    0xFE, 0x07, 0xE0, 0x27, 0x1A, 0x01, 0x04, 0x01, 0x37, // model number
-    0x00, 0x00, // End
-];
 
 /// What frame A says, as parts of this text.
 const TEXT_OF_A: &[u8] = b"1A7";
@@ -52,14 +45,19 @@ fn put(text: &mut Vec<u8>, octets: &[u8]) -> Part {
     part(start, octets.len() as u64)
 }
 
+/// Puts the strings of link information there, with so many octets of addresses.
+fn put_link(text: &mut Vec<u8>, interface: &[u8], number: &[u8], octets: usize) -> LinkStrings {
+    LinkStrings {
+        interface: put(text, interface),
+        number: put(text, number),
+        addresses: put(text, &vec![9; octets]),
+    }
+}
+
 /// Frame A with link information of n, m and so many octets of addresses.
 fn with_link(n: usize, m: usize, octets: usize) -> Result<Vec<u8>, u8> {
     written(|description, text| {
-        description.link = Some(LinkStrings {
-            interface: put(text, &vec![6; n]),
-            number: put(text, &vec![3; m]),
-            addresses: put(text, &vec![9; octets]),
-        });
+        description.link = Some(put_link(text, &vec![6; n], &vec![3; m], octets));
     })
 }
 
@@ -69,12 +67,9 @@ fn with_list(octets: usize) -> Result<Vec<u8>, u8> {
 }
 
 /// Frame A's first three TLVs with seconds 0, and the End.
-const GOODBYE: [u8; 19] = [
-    0x02, 0x07, 0x04, 0x02, 0x00, 0x00, 0x00, 0x00, 0x01, // chassis
-    0x04, 0x02, 0x07, 0x31, // port ID
-    0x06, 0x02, 0x00, 0x00, // seconds
-    0x00, 0x00, // End
-];
+fn goodbye_of_a() -> Vec<u8> {
+    [&A[..15], &[0x00, 0x00], &A[35..]].concat()
+}
 
 /// All but chassis and port ID absent, and then changed.
 fn goodbye(change: impl FnOnce(&mut Description, &mut Vec<u8>)) -> Result<Vec<u8>, u8> {
@@ -131,9 +126,7 @@ fn everything_in_its_order() {
     assert_eq!(write(&description, text, expected.len()), Ok(expected.clone()));
 
     // Behind a header it reads back as the description, and it is HTIP (W6).
-    let header =
-        [0xFF, 0xFF, 0xFF, 0xFF, 0xFF, 0xFF, 0x02, 0x00, 0x00, 0x00, 0x00, 0x01, 0x88, 0xCC];
-    let reading = read_frame(&[&header[..], &expected].concat()).expect("the frame is valid");
+    let reading = read_frame(&[&HEADER[..], &expected].concat()).expect("the frame is valid");
     assert!(reading.htip);
     assert_eq!(reading.outline.length, 110);
     assert_eq!(reading.outline.chassis, [0xAA, 0xBB, 0xCC, 0xDD, 0xEE, 0xFF]);
@@ -179,7 +172,7 @@ fn category_and_model_number_must_be_there() {
 
 #[test]
 fn seconds_0_and_nothing_else() {
-    assert_eq!(goodbye(|_, _| {}), Ok(GOODBYE.to_vec()));
+    assert_eq!(goodbye(|_, _| {}), Ok(goodbye_of_a()));
     assert_eq!(goodbye(|description, _| description.words.len = 1), Err(9));
     assert_eq!(goodbye(|description, _| description.category.len = 1), Err(9));
     assert_eq!(goodbye(|description, _| description.manufacturer.len = 1), Err(9));
@@ -189,11 +182,7 @@ fn seconds_0_and_nothing_else() {
     // Tables are present even without addresses (W3).
     for count in [0, 1] {
         let link = goodbye(|description, text| {
-            description.link = Some(LinkStrings {
-                interface: put(text, &[6]),
-                number: put(text, &[3]),
-                addresses: put(text, &vec![9; 6 * count]),
-            });
+            description.link = Some(put_link(text, &[6], &[3], 6 * count));
         });
         assert_eq!(link, Err(9));
         let list = goodbye(|description, text| {
@@ -202,7 +191,7 @@ fn seconds_0_and_nothing_else() {
         assert_eq!(list, Err(9));
     }
     // What is written is valid, and it is not HTIP (W6).
-    assert!(!read_lldpdu(&GOODBYE).expect("a goodbye is valid").htip);
+    assert!(!read_lldpdu(&goodbye_of_a()).expect("a goodbye is valid").htip);
 }
 
 #[test]
@@ -310,11 +299,7 @@ fn lengths_in_link_information() {
     assert_eq!(with_link(1, 257, 6), Err(9));
     // 00 06 is not 06 (T7).
     let wrote = written(|description, text| {
-        description.link = Some(LinkStrings {
-            interface: put(text, &[0x00, 0x06]),
-            number: put(text, &[0x00]),
-            addresses: put(text, &[]),
-        });
+        description.link = Some(put_link(text, &[0x00, 0x06], &[0x00], 0));
     });
     let link = [0xFE, 0x0A, 0xE0, 0x27, 0x1A, 0x02, 0x02, 0x00, 0x06, 0x01, 0x00, 0x00];
     assert_eq!(wrote, Ok([&A[..35], &link, &A[35..]].concat()));
@@ -378,11 +363,7 @@ fn around_1500_octets() {
     let of_length = |total: usize| {
         written(|description, text| {
             description.list = Some(put(text, &[9; 504]));
-            description.link = Some(LinkStrings {
-                interface: put(text, &[6]),
-                number: put(text, &[3]),
-                addresses: put(text, &[9; 498]),
-            });
+            description.link = Some(put_link(text, &[6], &[3], 6 * 83));
             description.category = put(text, &[0; 255]);
             description.port = put(text, &vec![0; 255 - (1565 - total)]);
         })
@@ -446,7 +427,7 @@ fn nothing_at_the_end_of_the_text_is_inside() {
     });
     assert_eq!(wrote, Ok(A.to_vec()));
     let wrote = goodbye(|description, _| description.words = part(3, 0));
-    assert_eq!(wrote, Ok(GOODBYE.to_vec()));
+    assert_eq!(wrote, Ok(goodbye_of_a()));
     // In a text of no octets nothing is inside, but a port ID has an octet.
     assert_eq!(goodbye(|_, text| text.clear()), Err(9));
 }

@@ -8,9 +8,6 @@ use crate::reader::Refusal;
 use crate::rng::Rng;
 use crate::writer::{Description, LinkStrings};
 
-/// The seed is fixed, so that the files never change by themselves.
-const SEED: u64 = 0x414E_4E4F_554E_4345;
-
 pub const LONGEST_LLDPDU: usize = 1500;
 const LONGEST_TEXT: usize = 2000;
 const LONGEST_ROOM: usize = 1600;
@@ -21,10 +18,6 @@ pub struct Maker {
 }
 
 impl Maker {
-    pub fn new() -> Self {
-        Maker { rng: Rng::new(SEED), cases: Vec::new() }
-    }
-
     pub fn add(
         &mut self,
         (description, text): (Description, Vec<u8>),
@@ -108,7 +101,7 @@ impl Maker {
     /// A sound plan with nothing that may be left out.
     pub fn plain(&mut self) -> Plan {
         Plan {
-            chassis: [0; 6].map(|_: u8| self.rng.octet()),
+            chassis: self.rng.address(),
             port_subtype: self.rng.between(1, 7) as u8,
             seconds: self.rng.between(1, 65_535) as u16,
             port: self.short(3),
@@ -178,7 +171,7 @@ impl Maker {
 
     /// Characters that a port description may have (T10).
     pub fn words(&mut self, length: usize) -> Vec<u8> {
-        (0..length).map(|_| self.rng.pick(CHARACTERS)).collect()
+        self.rng.picks(CHARACTERS, length)
     }
 
     /// Octets that the field may have, so that only their number can be wrong.

@@ -2,12 +2,12 @@
 //! A part that lies outside is wrong by its numbers alone; the octets of the text are sound.
 
 use super::maker::Maker;
-use super::plan::{append, Field, Plan};
+use super::plan::{append, part, Field, Plan};
 use crate::writer::{Description, LinkStrings, Part};
 
 impl Maker {
     pub fn places(&mut self) {
-        for field in Field::ALL {
+        for (field, _) in Field::ALL {
             self.at_the_end(field);
             self.far_outside(field);
         }
@@ -83,13 +83,13 @@ impl Maker {
         text.extend(self.rng.octets(2));
         let end = text.len() as u64;
         for start in [0, 1, end] {
-            for &field in fields {
+            for &(field, _) in fields {
                 *description.at(field) = Part { start, len: 0 };
             }
             let room = self.enough_for(&plan);
             self.add_sound((description.clone(), text.clone()), plan.length(), room);
         }
-        for &field in fields {
+        for &(field, _) in fields {
             let mut description = description.clone();
             *description.at(field) = Part { start: end + 1, len: 0 };
             self.add((description, text.clone()), plan.length(), Err(9));
@@ -168,12 +168,10 @@ impl Maker {
             for string in plan.strings() {
                 // As long as the plan's own string, which is sound; the octets are the text's.
                 let start = self.rng.between(0, text.len() - string.len());
-                parts.push(Part { start: start as u64, len: string.len() as u64 });
+                parts.push(part(start, &string));
             }
-            let mut parts = parts.into_iter();
-            let description = plan.with(|_| parts.next()).expect("each string has its part");
             let room = self.enough_for(&plan);
-            self.add_sound((description, text), plan.length(), room);
+            self.add_sound((plan.in_parts(parts), text), plan.length(), room);
         }
     }
 

@@ -24,17 +24,18 @@ pub enum Field {
 use Field::*;
 
 impl Field {
-    pub const ALL: [Field; 10] = [
-        Port,
-        Words,
-        Category,
-        Manufacturer,
-        ModelName,
-        ModelNumber,
-        Interface,
-        Number,
-        LinkAddresses,
-        ListAddresses,
+    /// All of them, each with the most octets that its own rule allows (L4, T10, T3, T7, T8).
+    pub const ALL: [(Field, usize); 10] = [
+        (Port, 255),
+        (Words, 255),
+        (Category, 255),
+        (Manufacturer, 6),
+        (ModelName, 31),
+        (ModelNumber, 31),
+        (Interface, 4),
+        (Number, 4),
+        (LinkAddresses, 6 * 83),
+        (ListAddresses, 6 * 84),
     ];
 
     /// Whether it may have no octets with seconds above 0 (L4, W1, W2, T7, T8).
@@ -133,9 +134,13 @@ impl Plan {
         for &place in order {
             parts[place] = put(&mut text, &strings[place]);
         }
+        (self.in_parts(parts), text)
+    }
+
+    /// The description with these parts for its strings.
+    pub(super) fn in_parts(&self, parts: Vec<Part>) -> Description {
         let mut parts = parts.into_iter();
-        let description = self.with(|_| parts.next()).expect("each string has its part");
-        (description, text)
+        self.with(|_| parts.next()).expect("each string has its part")
     }
 }
 
@@ -143,7 +148,7 @@ impl Plan {
 pub fn append(text: &mut Vec<u8>, string: &[u8]) -> Part {
     let start = text.len();
     text.extend(string);
-    Part { start: start as u64, len: string.len() as u64 }
+    part(start, string)
 }
 
 /// Puts the string only where the text does not have it yet, so that parts overlap.
@@ -151,7 +156,12 @@ pub fn share(text: &mut Vec<u8>, string: &[u8]) -> Part {
     // An empty string has no window, and is put wherever the end is.
     let found = text.windows(string.len().max(1)).position(|window| window == string);
     match found {
-        Some(start) => Part { start: start as u64, len: string.len() as u64 },
+        Some(start) => part(start, string),
         None => append(text, string),
     }
+}
+
+/// The part that a string is from `start` on.
+pub fn part(start: usize, string: &[u8]) -> Part {
+    Part { start: start as u64, len: string.len() as u64 }
 }

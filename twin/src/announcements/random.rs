@@ -41,14 +41,7 @@ impl Maker {
         if self.rng.once_in(6) {
             plan = self.goodbye();
         }
-        for (field, longest) in [
-            (Field::Port, 255),
-            (Field::Words, 255),
-            (Field::Category, 255),
-            (Field::Manufacturer, 6),
-            (Field::ModelName, 31),
-            (Field::ModelNumber, 31),
-        ] {
+        for &(field, longest) in &Field::ALL[..6] {
             if !plan.at(field).is_empty() {
                 let length = match self.rng.below(8) {
                     0 => longest,
@@ -108,7 +101,7 @@ impl Maker {
         for _ in 0..20 {
             let plan = self.random_plan(false);
             let (mut description, text) = plan.in_order();
-            let field = self.rng.pick(&Field::ALL[..6]);
+            let (field, _) = self.rng.pick(&Field::ALL[..6]);
             let part = description.at(field);
             let far = self.rng.word() >> self.rng.below(56);
             let far = far.max(text.len() as u64 + 1);

@@ -299,18 +299,12 @@ impl Maker {
         let mut plan = self.full();
         // With 83 addresses that leaves L at 511 (T7).
         let (n, m) = self.rng.pick(&[(2, 4), (3, 3), (4, 2)]);
-        for (field, length) in [
-            (Field::Port, 255),
-            (Field::Words, 255),
-            (Field::Category, 255),
-            (Field::Manufacturer, 6),
-            (Field::ModelName, 31),
-            (Field::ModelNumber, 31),
-            (Field::Interface, n),
-            (Field::Number, m),
-            (Field::LinkAddresses, 6 * 83),
-            (Field::ListAddresses, 6 * 84),
-        ] {
+        for (field, longest) in Field::ALL {
+            let length = match field {
+                Field::Interface => n,
+                Field::Number => m,
+                _ => longest,
+            };
             *plan.at(field) = self.string(field, length);
         }
         plan
@@ -321,7 +315,7 @@ impl Maker {
         let mut plan = self.fullest();
         while plan.length() > total {
             let too_many = plan.length() - total;
-            let field = self.rng.pick(&Field::ALL);
+            let (field, _) = self.rng.pick(&Field::ALL);
             let step = match field {
                 Field::LinkAddresses | Field::ListAddresses => 6,
                 _ => 1,

@@ -3,14 +3,10 @@
 
 use super::desk::Desk;
 use super::Event;
-use crate::frames::blocks::{category, lldpdu, model_number, neighbour, tlv, Tlv};
+use crate::frames::blocks::{category, leading_of, lldpdu, model_number, pool, Tlv};
 use crate::frames::maker::Maker as FrameMaker;
 use crate::reader::Address;
-use crate::rng::Rng;
-use crate::table::PLACES;
-
-/// The seed is fixed, so that the files never change by themselves.
-const SEED: u64 = 0x4E45_4947_4842_5253;
+use crate::rng::{self, Rng};
 
 pub struct Maker {
     pub frames: FrameMaker,
@@ -30,18 +26,13 @@ pub struct Agent {
 
 impl Agent {
     pub fn announcement(&self, seconds: u16, later: &[Tlv]) -> Vec<u8> {
-        let leading = [
-            tlv(1, &[&[4], &self.chassis[..]].concat()),
-            tlv(2, &[&[self.subtype], &self.port[..]].concat()),
-            tlv(3, &seconds.to_be_bytes()),
-        ];
-        lldpdu(&leading, later)
+        lldpdu(&leading_of(self.chassis, self.subtype, &self.port, seconds), later)
     }
 }
 
 impl Maker {
     pub fn new() -> Self {
-        let frames = FrameMaker { rng: Rng::new(SEED), cases: Vec::new() };
+        let frames = FrameMaker { rng: Rng::new(rng::EVENTS), cases: vec![] };
         Maker { frames, events: Vec::new(), desk: Desk::new(), unseen: 0 }
     }
 
@@ -82,17 +73,19 @@ impl Maker {
             4 | 5 => vec![category(), model_number()],
             _ => {
                 let count = self.rng().between(1, 2);
-                (0..count).map(|_| self.frames.random_link(&addresses())).collect()
+                (0..count).map(|_| self.frames.random_link(&pool())).collect()
             }
         }
     }
 
-    pub fn used_places(&self) -> Vec<usize> {
-        self.desk.table.used().collect()
+    pub fn any_used(&mut self) -> Option<usize> {
+        let used: Vec<usize> = self.desk.table.used().collect();
+        self.any_of(&used)
     }
 
-    pub fn free_places(&self) -> Vec<usize> {
-        (0..PLACES).filter(|&place| self.desk.table.length[place] == 0).collect()
+    pub fn any_free(&mut self) -> Option<usize> {
+        let free: Vec<usize> = self.desk.table.free().collect();
+        self.any_of(&free)
     }
 
     /// One of the list; none where it is empty.
@@ -106,9 +99,4 @@ impl Maker {
         let outline = outline.expect("the desk's table is fit");
         Agent { chassis: outline.chassis, subtype: outline.port_subtype, port: outline.port }
     }
-}
-
-/// The addresses that link information names.
-pub fn addresses() -> Vec<Address> {
-    (1..=6).map(neighbour).collect()
 }

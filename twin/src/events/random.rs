@@ -1,9 +1,9 @@
 //! Random sequences of calls: frames of few agents on few ports, time, lost links, questions.
 //! Some sequences begin in a crowd, and each ends with a table that can be spoiled.
 
-use super::maker::{addresses, Agent, Maker};
+use super::maker::{Agent, Maker};
 use super::Event;
-use crate::frames::blocks::{neighbour, tlv, Tlv, HEADER};
+use crate::frames::blocks::{neighbour, pool, tlv, Tlv, HEADER};
 use crate::table::{BUFFER_OCTETS, COMMON, MOST, PLACE_OCTETS, PORTS, SURE};
 
 const SEQUENCES: usize = 66;
@@ -151,8 +151,7 @@ impl Maker {
 
     /// None, all, few, or about so many as a record has left (N8).
     pub fn random_seconds_passed(&mut self) -> u16 {
-        let used = self.used_places();
-        let left = self.any_of(&used).map_or(1, |place| self.desk.table.seconds[place]);
+        let left = self.any_used().map_or(1, |place| self.desk.table.seconds[place]);
         match self.rng().below(12) {
             0 => 0,
             1 => 65_535,
@@ -190,7 +189,7 @@ impl Maker {
     fn random_later(&mut self) -> Vec<Tlv> {
         if self.rng().once_in(6) {
             let spoilt = self.rng().once_in(2);
-            self.frames.random_later(&addresses(), spoilt)
+            self.frames.random_later(&pool(), spoilt)
         } else {
             self.light_later()
         }
@@ -219,8 +218,7 @@ impl Maker {
     }
 
     fn random_sender(&mut self, ports: &[usize]) -> (usize, Agent) {
-        let used = self.used_places();
-        let known = if self.rng().once_in(3) { None } else { self.any_of(&used) };
+        let known = if self.rng().once_in(3) { None } else { self.any_used() };
         match known {
             Some(place) => {
                 let port = usize::from(self.desk.table.port[place]);

@@ -2,8 +2,9 @@
 //! Edits are proposed at random; those are taken that break the one condition they are meant for.
 
 use super::desk::STORE_OCTETS;
-use super::maker::{addresses, Maker};
+use super::maker::Maker;
 use super::{Event, Trial};
+use crate::frames::blocks::pool;
 use crate::reader::outline_lldpdu;
 use crate::table::{octets_of, BUFFER_OCTETS, COMMON, MOST, PLACE_OCTETS, PORTS, SURE};
 
@@ -31,51 +32,31 @@ pub enum Way {
 }
 
 impl Way {
-    pub const ALL: [Way; 16] = [
-        Way::ShorterBuffer,
-        Way::LongerBuffer,
-        Way::EmptyBuffer,
-        Way::FreePort,
-        Way::FreeSeconds,
-        Way::FreeOctet,
-        Way::PortAboveSeven,
-        Way::LengthAbove1500,
-        Way::AnotherLength,
-        Way::InvalidLldpdu,
-        Way::OctetBehind,
-        Way::NoSecondsLeft,
-        Way::TooManySecondsLeft,
-        Way::IdentityTwice,
-        Way::SevenOnAPort,
-        Way::SeventeenBeyondTwo,
+    /// Every way, the condition of N5 that it breaks, and how many tables are spoiled so after a
+    /// sequence. The last two ways need a port with six, or the sixteen taken, which not all
+    /// sequences end with.
+    pub const ALL: [(Way, char, usize); 16] = [
+        (Way::ShorterBuffer, 'a', 5),
+        (Way::LongerBuffer, 'a', 5),
+        (Way::EmptyBuffer, 'a', 5),
+        (Way::FreePort, 'b', 5),
+        (Way::FreeSeconds, 'b', 5),
+        (Way::FreeOctet, 'b', 5),
+        (Way::PortAboveSeven, 'c', 5),
+        (Way::LengthAbove1500, 'c', 5),
+        (Way::AnotherLength, 'c', 5),
+        (Way::InvalidLldpdu, 'c', 5),
+        (Way::OctetBehind, 'c', 5),
+        (Way::NoSecondsLeft, 'c', 5),
+        (Way::TooManySecondsLeft, 'c', 5),
+        (Way::IdentityTwice, 'd', 5),
+        (Way::SevenOnAPort, 'e', 8),
+        (Way::SeventeenBeyondTwo, 'f', 15),
     ];
 
     /// The condition of N5 that is broken.
     pub fn letter(self) -> char {
-        match self {
-            Way::ShorterBuffer | Way::LongerBuffer | Way::EmptyBuffer => 'a',
-            Way::FreePort | Way::FreeSeconds | Way::FreeOctet => 'b',
-            Way::PortAboveSeven
-            | Way::LengthAbove1500
-            | Way::AnotherLength
-            | Way::InvalidLldpdu
-            | Way::OctetBehind
-            | Way::NoSecondsLeft
-            | Way::TooManySecondsLeft => 'c',
-            Way::IdentityTwice => 'd',
-            Way::SevenOnAPort => 'e',
-            Way::SeventeenBeyondTwo => 'f',
-        }
-    }
-
-    /// How many tables are spoiled in this way after a sequence. The last two ways need a port with
-    /// six, or the sixteen taken, which not all sequences end with.
-    fn tables(self) -> usize {
-        match self {
-            Way::SevenOnAPort => 8,
-            Way::SeventeenBeyondTwo => 15,
-            _ => 5,
-        }
+        Way::ALL[self as usize].1
     }
 }
 
@@ -83,8 +64,8 @@ impl Maker {
     /// The table as it is now is kept, and spoiled in each way.
     pub fn spoils(&mut self) {
         self.call(Event::Keep);
-        for way in Way::ALL {
-            for _ in 0..way.tables() {
+        for (way, _, tables) in Way::ALL {
+            for _ in 0..tables {
                 if let Some(edits) = self.edits(way) {
                     let trial = self.trial(way);
                     self.events.extend(edits);
@@ -113,8 +94,7 @@ impl Maker {
             1 => self.random_start(),
             _ => self.rng().below(PORTS),
         };
-        let used = self.used_places();
-        let agent = match self.any_of(&used) {
+        let agent = match self.any_used() {
             Some(place) if self.rng().once_in(2) => self.agent_at(place),
             _ => self.unseen_agent(),
         };
@@ -127,7 +107,7 @@ impl Maker {
             way,
             number,
             seconds: self.random_seconds_passed(),
-            address: self.rng().pick(&addresses()),
+            address: self.rng().pick(&pool()),
             frame,
         }
     }
@@ -190,16 +170,6 @@ impl Maker {
         }
     }
 
-    fn any_free(&mut self) -> Option<usize> {
-        let free = self.free_places();
-        self.any_of(&free)
-    }
-
-    fn any_used(&mut self) -> Option<usize> {
-        let used = self.used_places();
-        self.any_of(&used)
-    }
-
     /// An octet becomes one that is not 0.
     fn octet_becomes(&mut self, at: usize) -> Event {
         let some = self.rng().between(1, 255) as u8;
@@ -237,9 +207,10 @@ impl Maker {
     /// A length that the place has no room for. Where an LLDPDU fills its place, it may even look
     /// whole: its End becomes a TLV of L = 0, and the next place, being free, begins with an End.
     fn length_above_1500(&mut self) -> Option<Vec<Event>> {
-        let full = self.used_places().into_iter().find(|&place| {
-            usize::from(self.desk.table.length[place]) == PLACE_OCTETS
-                && self.free_places().contains(&(place + 1))
+        let table = &self.desk.table;
+        let full = table.used().find(|&place| {
+            usize::from(table.length[place]) == PLACE_OCTETS
+                && table.free().any(|free| free == place + 1)
         });
         if let Some(place) = full {
             if self.rng().once_in(2) {
@@ -261,7 +232,7 @@ impl Maker {
     fn another_length(&mut self) -> Option<Vec<Event>> {
         let place = self.any_used()?;
         if self.rng().once_in(3) {
-            let later = octets_of(place).start + 9 + (3 + self.agent_at(place).port.len()) + 4;
+            let later = self.behind_port_id(place) + 4;
             let edits = [later, later + 1].map(|at| Event::SetOctet { at, octet: 0 });
             return Some(edits.to_vec());
         }
@@ -306,9 +277,14 @@ impl Maker {
         Some(vec![Event::SetSeconds { place, seconds }])
     }
 
+    /// Where the third TLV of the LLDPDU at a place begins (L3 to L5).
+    fn behind_port_id(&self, place: usize) -> usize {
+        octets_of(place).start + 9 + (3 + self.agent_at(place).port.len())
+    }
+
     /// The seconds of the LLDPDU at a place, behind the port ID (L5).
     fn seconds_become(&mut self, place: usize, seconds: u16) -> Vec<Event> {
-        let at = octets_of(place).start + 9 + (3 + self.agent_at(place).port.len()) + 2;
+        let at = self.behind_port_id(place) + 2;
         let [high, low] = seconds.to_be_bytes();
         vec![Event::SetOctet { at, octet: high }, Event::SetOctet { at: at + 1, octet: low }]
     }

@@ -53,6 +53,14 @@ pub fn leading() -> [Tlv; 3] {
     [chassis(), port(), seconds()]
 }
 
+pub fn leading_of(chassis: Address, subtype: u8, port: &[u8], seconds: u16) -> [Tlv; 3] {
+    [
+        tlv(1, &[&[4], &chassis[..]].concat()),
+        tlv(2, &[&[subtype], port].concat()),
+        tlv(3, &seconds.to_be_bytes()),
+    ]
+}
+
 pub fn ttc(subtype: u8, body: &[u8]) -> Tlv {
     let [a, b, c] = TTC;
     tlv(127, &[&[a, b, c, subtype], body].concat())
@@ -121,6 +129,11 @@ pub fn description(text: &[u8]) -> Tlv {
 
 pub fn neighbour(number: u8) -> Address {
     [0x02, 0x00, 0x00, 0x00, 0x20, number]
+}
+
+/// The addresses that random tables name.
+pub fn pool() -> Vec<Address> {
+    (1..=6).map(neighbour).collect()
 }
 
 /// That many addresses, the last of them the one that is asked for.

@@ -6,19 +6,12 @@ use super::{Case, Kind};
 use crate::reader::Address;
 use crate::rng::Rng;
 
-/// The seed is fixed, so that the files never change by themselves.
-const SEED: u64 = 0x4C4C_4450_4854_4950;
-
 pub struct Maker {
     pub rng: Rng,
     pub cases: Vec<Case>,
 }
 
 impl Maker {
-    pub fn new() -> Self {
-        Maker { rng: Rng::new(SEED), cases: Vec::new() }
-    }
-
     pub fn add(&mut self, kind: Kind, octets: Vec<u8>, asked: Address) {
         assert!(octets.len() <= 2000);
         self.cases.push(Case { kind, asked, octets });
@@ -51,8 +44,7 @@ impl Maker {
 
     pub fn header(&mut self) -> Vec<u8> {
         let destination = self.rng.pick(&[EVERYONE, GROUP]);
-        let source = [0; 6].map(|_: u8| self.rng.octet());
-        headed(destination, source, LLDP, &[])
+        headed(destination, self.rng.address(), LLDP, &[])
     }
 
     /// A frame that is HTIP but for the given TLVs.
@@ -76,10 +68,5 @@ impl Maker {
     fn among(&mut self, others: &[Tlv], tlvs: &[Tlv]) -> Vec<u8> {
         let (before, behind) = others.split_at(self.rng.below(others.len() + 1));
         lldpdu(&leading(), &[before, tlvs, behind].concat())
-    }
-
-    /// Characters that a port description may have (T10).
-    pub fn text(&mut self, length: usize) -> Vec<u8> {
-        (0..length).map(|_| self.rng.pick(CHARACTERS)).collect()
     }
 }

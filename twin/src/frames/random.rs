@@ -52,14 +52,14 @@ impl Maker {
 
     /// A valid LLDPDU with padding, and an address to ask for. It is HTIP exactly if not spoilt.
     fn random_lldpdu(&mut self, spoilt: bool) -> (Vec<u8>, Address) {
-        let pool: Vec<Address> = (1..=6).map(neighbour).collect();
-        let chassis = tlv(1, &[&[4], self.rng.octets(6).as_slice()].concat());
+        let pool = pool();
+        let chassis = self.rng.address();
         let subtype = self.rng.between(1, 7) as u8;
         let length = self.rng.between(1, 12);
-        let port = tlv(2, &[&[subtype], self.rng.octets(length).as_slice()].concat());
-        let seconds = tlv(3, &self.rng.octets(2));
+        let port = self.rng.octets(length);
+        let seconds = u16::from_be_bytes([self.rng.octet(), self.rng.octet()]);
         let later = self.random_later(&pool, spoilt);
-        let inside = lldpdu(&[chassis, port, seconds], &later);
+        let inside = lldpdu(&leading_of(chassis, subtype, &port, seconds), &later);
         ([inside, self.random_padding()].concat(), self.rng.pick(&pool))
     }
 
@@ -74,7 +74,7 @@ impl Maker {
         }
         if self.rng.once_in(2) {
             let length = if self.rng.once_in(8) { 255 } else { self.rng.between(0, 20) };
-            let text = self.text(length);
+            let text = self.rng.picks(CHARACTERS, length);
             later.push(description(&text));
         }
         if self.rng.once_in(3) {
@@ -124,7 +124,7 @@ impl Maker {
 
     fn random_members(&mut self, pool: &[Address]) -> Vec<Address> {
         let count = self.rng.between(0, 4);
-        (0..count).map(|_| self.rng.pick(pool)).collect()
+        self.rng.picks(pool, count)
     }
 
     pub fn random_link(&mut self, pool: &[Address]) -> Tlv {

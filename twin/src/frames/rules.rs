@@ -624,14 +624,14 @@ impl Maker {
             self.with(&[description(&[octet])]);
         }
         for length in [0, 1, 2, 254, 255, 256, 257, 511] {
-            let text = self.text(length);
+            let text = self.rng.picks(CHARACTERS, length);
             self.with(&[description(&text)]);
         }
         // One foreign octet at the front, in the middle, at the end.
         for length in [20, 255] {
             for place in [0, length / 2, length - 1] {
                 for foreign in [0x00, 0x5B, 0xC3] {
-                    let mut text = self.text(length);
+                    let mut text = self.rng.picks(CHARACTERS, length);
                     text[place] = foreign;
                     self.with(&[description(&text)]);
                 }

@@ -1,0 +1,23 @@
+//! The numbers that reader and writer share, so that each has one name.
+//! The makers of cases do not use them: they type what they need once more.
+
+/// Types of TLVs (L3 to L5, L7, T1, T10).
+pub const END: u8 = 0;
+pub const CHASSIS: u8 = 1;
+pub const PORT: u8 = 2;
+pub const SECONDS: u8 = 3;
+pub const DESCRIPTION: u8 = 4;
+pub const ORGANIZATION: u8 = 127;
+
+/// The code of TTC, and the subtypes of its fields (T1, T2, T7, T8).
+pub const TTC: [u8; 3] = [0xE0, 0x27, 0x1A];
+pub const DEVICE: u8 = 1;
+pub const LINK: u8 = 2;
+pub const LIST: u8 = 3;
+
+/// IDs of device information (T3, T6).
+pub const CATEGORY: u8 = 1;
+pub const MANUFACTURER: u8 = 2;
+pub const MODEL_NAME: u8 = 3;
+pub const MODEL_NUMBER: u8 = 4;
+pub const VENDOR: u8 = 255;
