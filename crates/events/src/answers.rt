@@ -4,12 +4,12 @@ use crate::record::Record;
 use crate::say::say;
 use crate::say::say_digest;
 use crate::say::say_number;
-use numbers::Table;
-use reader::Number;
-use rules::Reply;
 use table::Answer;
 use table::Count;
+use table::Number;
+use table::Reply;
 use table::Sight;
+use table::Table;
 
 fn say_refused(n: u8) {
     say(b"refused ");

@@ -4,10 +4,10 @@ ghost use Prim.Native.Nat.{_<_};
 use crate::answers::answer;
 use crate::answers::answer_spoiled;
 use crate::record::Record;
-use numbers::PLACES;
-use numbers::Table;
 use octets::octet;
 use table::OCTETS;
+use table::PLACES;
+use table::Table;
 
 // The octets of a place (N1).
 const PLACE: usize = 1500;

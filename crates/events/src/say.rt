@@ -1,7 +1,7 @@
 // What the events print: words, numbers, and the digest of a table with its buffer.
 // The digest goes over the ports, the seconds, the lengths and then every octet of the buffer.
 use libc::STDOUT_FILENO;
-use numbers::Table;
+use table::Table;
 
 pub(crate) fn say(text: &[u8]) {
     io::write_all(STDOUT_FILENO, text);

@@ -2,10 +2,10 @@
 // Standard input has `e` for an empty table or `f` for a full one, then one octet: the thousands of turns. A turn is two calls.
 use libc::STDIN_FILENO;
 use libc::STDOUT_FILENO;
-use numbers::PLACES;
-use numbers::Table;
-use rules::Reply;
 use table::OCTETS;
+use table::PLACES;
+use table::Reply;
+use table::Table;
 use table::frame_on_port;
 
 // More refusals than this are not counted.
