@@ -9,8 +9,7 @@ use native.Mathlib.Omega.{arith}
 use lib.ListN.{length}
 use Rattle.tally.specs.Tests.{pick, both, either}
 use Rattle.tally.specs.Counts.{one}
-use Rattle.tally.proofs.TestsLaws.{both-end}
-use Rattle.tally.proofs.CountsLaws.{both-false}
+use Rattle.tally.proofs.TestsLaws.{both-end, both-false}
 use Rattle.rules.specs.Identity.{Ident, same}
 use Rattle.rules.specs.Events.{unread, says, frame, passed, lost, History, whose}
 use Rattle.rules.specs.Model.{Rec, Places, isSome, lookup, tally}

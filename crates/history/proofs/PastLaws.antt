@@ -1,6 +1,6 @@
 -- Laws of what is said of an identity: one event more, and that nothing is said on a port that there is not.
 -- They are cited where a history is put in words, counted and compared with a table.
-use Prim.Native.Nat.{ℕ, _+_, _≤_, _<_}
+use Prim.Native.Nat.{ℕ, _≤_, _<_}
 use mathlib.Core.Path.{_≡_, refl, ap, _∙_}
 use mathlib.Core.Bool.{Bool, true, false}
 use mathlib.Core.List.{[], _∷_}

@@ -3,8 +3,8 @@
 ghost use mathlib.Core.Path.{_≡_};
 ghost use Prim.Native.Nat.{_+_, _≤_};
 ghost use lib.ListN.{drop};
-ghost use Rattle.lldpdu.specs.Walk.{headOf, walk};
-ghost use Rattle.lldpdu.specs.Extent.{chassisOk, portOk, secondsOk, need, portLength, restOf, extentOf, behindPort, behindChassis};
+ghost use Rattle.lldpdu.specs.Walk.{walk};
+ghost use Rattle.lldpdu.specs.Extent.{chassisOk, portOk, secondsOk, portLength, extentOf, behindPort, behindChassis};
 use crate::walk::Head;
 use crate::walk::NOT_AS_DUE;
 use crate::walk::RUNS_PAST;

@@ -3,7 +3,7 @@
 ghost use mathlib.Core.Path.{_≡_};
 ghost use Prim.Native.Nat.{_≤_};
 ghost use lib.ListN.{length};
-ghost use Rattle.reader.specs.Reading.{partAt, linkAt, listAt, Ready, descriptionAt, refusedReading, readingAt};
+ghost use Rattle.reader.specs.Reading.{partAt, linkAt, listAt, Ready, descriptionAt, refusedReading};
 ghost use Rattle.reader.specs.Meaning.{Reads};
 use crate::found::Found;
 use crate::found::Mark;

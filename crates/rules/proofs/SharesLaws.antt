@@ -1,7 +1,7 @@
 -- Why the shares leave a free place: a record that gets room finds one, and the table then is as fit as before.
 -- The ports hold no more than their sure places and the common ones that are taken; that is fewer than there are.
 use Prim.Native.Nat.{ℕ, zero, suc, _+_, _-_, _*_, _≤_, _<_}
-use mathlib.Core.Path.{_≡_, refl, sym, ap, _∙_}
+use mathlib.Core.Path.{_≡_, refl, sym, _∙_}
 use mathlib.Core.List.{[], _∷_}
 use mathlib.Core.Bool.{Bool, true, false}
 use mathlib.Core.Logic.{_≢_}

@@ -4,10 +4,9 @@ use Prim.Native.Nat.{ℕ, _≤_, _<_}
 use mathlib.Core.Path.{_≡_, refl, ap, _∙_}
 use mathlib.Core.List.{List}
 use mathlib.Core.Logic.{_≢_}
-use mathlib.Core.Bool.{Bool, true, false, not}
-use borrow.Author.Tests.{eq-eqb, ne-eqb, ltb-true, ltb-false, lt-ltb, le-ltb, le-leb, lt-leb}
+use mathlib.Core.Bool.{true, false}
+use borrow.Author.Tests.{eq-eqb, ne-eqb, lt-ltb, le-ltb, le-leb, lt-leb}
 use lib.ListN.{length, replicate}
-use lib.Dec.{ltb, leb}
 use Rattle.numbers.specs.Sizes.{ports, places}
 use Rattle.numbers.specs.declared.Table.{Table}
 use Rattle.table.specs.State.{State, octets, state, empty, each}
@@ -19,14 +18,6 @@ use Rattle.table.specs.declared.starting.Outcome.{Outcome}
 
 abbrev pub done : Table → Outcome
 done t = record { table = t; answer = Done }
-
--- the two tests of a bound are one
-pub not-below : (m n : ℕ) → leb n m ≡ not (ltb m n)
-not-below m n = go (ltb m n) refl
-  where
-    go : (b : Bool) → ltb m n ≡ b → leb n m ≡ not b
-    go true e = lt-leb n m (ltb-true m n e)
-    go false e = le-leb n m (ltb-false m n e)
 
 -- a call that is done, and one that is refused
 does-done : {t : Table} {b : List ℕ} {r : State} → state t b ≡ r → Does (done t) b (answered Done r) 0

@@ -1,6 +1,6 @@
 -- Laws of a place by itself, as the fitness test asks it: each return of the code is one line here.
 -- Whether an LLDPDU is whole is asked of its outline, extent first (N5 b, c).
-use Prim.Native.Nat.{ℕ, _+_, _-_, _*_, _≤_, _<_}
+use Prim.Native.Nat.{ℕ, _-_, _≤_, _<_}
 use mathlib.Core.Path.{_≡_, refl, sym, ap, _∙_}
 use mathlib.Core.Logic.{_≢_}
 use mathlib.Core.Bool.{Bool, true, false}
@@ -20,7 +20,7 @@ use Rattle.rules.specs.Events.{whose}
 use Rattle.numbers.specs.Sizes.{ports}
 use Rattle.table.specs.State.{Place, size, ident, said}
 use Rattle.table.specs.Fit.{exactly, whole, okFree, okUsed, okPlace}
-use Rattle.table.specs.Marks.{lastTwo, markOf, markAt, check, checkFree, checkUsed, checkPlace}
+use Rattle.table.specs.Marks.{lastTwo, markOf, check, checkFree, checkUsed, checkPlace}
 use Rattle.table.specs.declared.fitness.Check.{Check}
 use Rattle.table.specs.declared.fitness.Check.the-variants.{Unfit, Mark}
 

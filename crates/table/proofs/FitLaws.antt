@@ -1,15 +1,16 @@
--- The test of fitness and its parts (N5), and what the calls take from a fit table: its length, and a free place where the shares have room.
+-- The test of fitness and its parts (N5): as the code asks them, and as a fit table has them; its length, and a free place where the shares have room.
 -- The room is the model's: a fit table is seen as a fit list of places, and there the shares leave a free one.
 use Prim.Native.Nat.{ℕ, _≤_, _<_}
-use mathlib.Core.Path.{_≡_, ap, _∙_, fun-ext}
-use mathlib.Core.Bool.{Bool, true}
-use mathlib.Core.List.{[], _∷_}
+use mathlib.Core.Path.{_≡_, sym, ap, _∙_, fun-ext}
+use mathlib.Core.Logic.{_≢_}
+use mathlib.Core.Bool.{Bool, true, false}
+use mathlib.Core.List.{List, [], _∷_}
 use native.Mathlib.Omega.{arith}
-use borrow.Author.Tests.{eqb-true, eq-eqb, leb-true, le-leb}
+use borrow.Author.Tests.{eqb-true, eq-eqb, ne-eqb, leb-true, le-leb}
 use lib.Dec.{leb, eqb}
 use lib.ListN.{length, getD}
 use Rattle.tally.specs.Counts.{allBelow}
-use Rattle.tally.proofs.TestsLaws.{both-true, held}
+use Rattle.tally.proofs.TestsLaws.{both-true, both-end, held, all-fails}
 use Rattle.tally.proofs.CountsLaws.{all-true, all-each, first-le}
 use Rattle.rules.specs.Shares.{most, beyond, share}
 use Rattle.rules.specs.declared.Room.the-variants.{Enough}
@@ -30,10 +31,34 @@ module _ (s : State) where
   abbrev right : ℕ → Bool
   right k = okPlace (at s k)
 
+  abbrev tests : List Bool
+  tests = eqb (length (s .buf)) octets ∷ sharesOk (holds (s .table)) ∷ allBelow right places ∷ allBelow (single s) places ∷ []
+
+  -- one that fails decides, wherever it stands; where the first three hold, the identities decide
+
+  pub unfit-length : length (s .buf) ≢ octets → false ≡ fit s
+  unfolding fit
+  unfit-length e = sym (all-fails tests 0 (ne-eqb (length (s .buf)) octets e))
+
+  pub unfit-shares : sharesOk (holds (s .table)) ≡ false → false ≡ fit s
+  unfolding fit
+  unfit-shares e = sym (all-fails tests 1 e)
+
+  pub unfit-places : allBelow right places ≡ false → false ≡ fit s
+  unfolding fit
+  unfit-places e = sym (all-fails tests 2 e)
+
+  pub fit-by : {b : Bool} → length (s .buf) ≡ octets → sharesOk (holds (s .table)) ≡ true → allBelow right places ≡ true
+      → b ≡ allBelow (single s) places → b ≡ fit s
+  unfolding fit
+  fit-by l h p e = e ∙ sym (rw (eq-eqb (length (s .buf)) octets l, h, p, both-end (allBelow (single s) places)))
+
+  -- the test, part by part
+
   pub fit-parts : fit s ≡ true → Fit s
   unfolding fit sharesOk
   fit-parts e =
-      let h = held (eqb (length (s .buf)) octets ∷ sharesOk (holds (s .table)) ∷ allBelow right places ∷ allBelow (single s) places ∷ []) e in
+      let h = held tests e in
       let b = both-true (allBelow low ports) (leb (beyond ports (holds (s .table))) common) (h .1 .0) in
       record {
         long = eqb-true (length (s .buf)) octets (h .0);

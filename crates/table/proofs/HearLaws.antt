@@ -10,6 +10,7 @@ use borrow.Author.Tests.{eqb-true, eqb-false, eq-eqb, ne-eqb, ltb-true, lt-ltb, 
 use lib.ListN.{length, take, drop, length-take, length-drop}
 use lib.Dec.{eqb, ltb}
 use Rattle.tally.specs.Tests.{pick, both}
+use Rattle.tally.proofs.TestsLaws.{not-below, below-or-at}
 use Rattle.octets.proofs.PartLaws.{part-is}
 use Rattle.lldpdu.specs.Extent.{extentOf}
 use Rattle.lldpdu.specs.Outline.{textOf, refusedOutline, outlineOf}
@@ -39,7 +40,6 @@ use Rattle.table.specs.declared.hearing.Reception.{Reception}
 use Rattle.table.proofs.CheckLaws.{outline-ident}
 use Rattle.table.proofs.FitLaws.{fit-parts}
 use Rattle.table.proofs.KeepLaws.{outline-extent, kept-outline}
-use Rattle.table.proofs.CallLaws.{not-below}
 
 -- What each return tells
 
@@ -141,19 +141,12 @@ module _ (p : ℕ) (f : List ℕ) (s : State) where
 
 -- The refusal number
 
-below-most : (h m : ℕ) → h ≤ m → ltb h m ≡ not (eqb h m)
-below-most h m l = go (eqb h m) refl
-  where
-    go : (b : Bool) → eqb h m ≡ b → ltb h m ≡ not b
-    go true e = le-ltb h m (omega (arith, eqb-true h m e))
-    go false e = lt-ltb h m (omega (arith, eqb-false h m e))
-
 module _ (s : State) (p : ℕ) (f : fit s ≡ true) (l : p < ports) where
   said-number : (a : Said) → refusalIn (heardSaying p a s .outcome .reply) ≡ firstDue (readRefusals (says a) p s)
   unfolding heardSaying heardAt heardNew share
   said-number a =
       let h = holds (s .table) p in
-      rw (room-share s (whose p a), not-below (find s (whose p a)) places, not-below h sure, below-most h most (fit-parts s f .six p l))
+      rw (room-share s (whose p a), not-below (find s (whose p a)) places, not-below h sure, below-or-at h most (fit-parts s f .six p l))
       (go (ltb (find s (whose p a)) places) (eqb (a .seconds) 0) (ltb h sure) (eqb h most) (eqb (beyond ports (holds (s .table))) common) (λ e. ne-eqb h most (omega (arith, ltb-true h sure e))))
     where
       go : (known goodbye few full taken : Bool) → (few ≡ true → full ≡ false)

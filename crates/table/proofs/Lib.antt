@@ -4,7 +4,6 @@ pub mod PlaceLaws
 pub mod CheckLaws
 pub mod MarkLaws
 pub mod TwinLaws
-pub mod FitnessLaws
 pub mod PutLaws
 pub mod ViewLaws
 pub mod FitLaws

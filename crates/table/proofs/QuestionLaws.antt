@@ -11,6 +11,7 @@ use native.Mathlib.Omega.{arith}
 use borrow.Author.Tests.{eq-eqb, ne-eqb, lt-ltb, le-ltb}
 use lib.Dec.{eqb, ltb}
 use Rattle.tally.specs.Tests.{pick}
+use Rattle.tally.proofs.TestsLaws.{not-below}
 use Rattle.reader.specs.Naming as naming
 use Rattle.reader.specs.declared.naming.Naming.{Naming}
 use Rattle.reader.specs.declared.naming.Naming.the-variants as naming-is
@@ -24,7 +25,6 @@ use Rattle.table.specs.declared.sight.Count.{Count}
 use Rattle.table.specs.declared.sight.Count.the-variants as count-is
 use Rattle.table.specs.declared.sight.Sight.{Sight}
 use Rattle.table.specs.declared.sight.Sight.the-variants.{Refused, Nobody}
-use Rattle.table.proofs.CallLaws.{not-below}
 use Rattle.table.proofs.SightLaws.{sight-seen}
 
 -- How many a port holds

@@ -8,17 +8,17 @@ use mathlib.Core.List.{List, [], _∷_}
 use borrow.Author.Tests.{eq-eqb, ne-eqb}
 use lib.ListN.{getD}
 use lib.Dec.{eqb}
-use Rattle.tally.specs.Tests.{both, all}
-use Rattle.tally.proofs.TestsLaws.{both-true}
+use Rattle.tally.specs.Tests.{all}
+use Rattle.tally.proofs.TestsLaws.{both-true, both-false}
 use Rattle.tally.specs.Counts.{allBelow}
-use Rattle.tally.proofs.CountsLaws.{both-false, all-more, all-stop}
+use Rattle.tally.proofs.CountsLaws.{all-more, all-stop}
 use Rattle.octets.specs.Address.{sameOctets}
 use Rattle.lldpdu.specs.Outline.{textOf, outlineOf}
 use Rattle.lldpdu.specs.declared.outline.Outline.{Outline}
-use Rattle.rules.specs.Identity.{Ident, same}
+use Rattle.rules.specs.Identity.{same}
 use Rattle.rules.proofs.IdentityLaws.{same-true}
 use Rattle.numbers.specs.Sizes.{places}
-use Rattle.table.specs.State.{Place, State, at, used, lldpduAt, ident, said, says, whoAt, isOf}
+use Rattle.table.specs.State.{State, at, used, lldpduAt, ident, said, says, whoAt, isOf}
 use Rattle.table.specs.Fit.{single}
 use Rattle.table.specs.Marks.{markOf, markAt, Marked}
 

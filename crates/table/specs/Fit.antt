@@ -9,7 +9,6 @@ use lib.Dec.{leb, ltb, eqb}
 use Rattle.tally.specs.Tests.{pick, all}
 use Rattle.tally.specs.Counts.{allBelow}
 use Rattle.octets.specs.Whole.{zeros}
-use Rattle.lldpdu.specs.Extent.{extentOf}
 use Rattle.lldpdu.specs.Outline.{outlineOf}
 use Rattle.lldpdu.specs.declared.extent.Extent.{Extent}
 use Rattle.lldpdu.specs.declared.extent.Extent.the-variants.{Refused, Octets}

@@ -1,6 +1,6 @@
 -- A frame on a port (N7): the answer, the three arrays and every octet of the buffer, refusals among them.
 -- The room rule is that of rules/specs/Shares.antt, over the number of records that pass a test.
-use Prim.Native.Nat.{ℕ, _+_}
+use Prim.Native.Nat.{ℕ}
 use mathlib.Core.Path.{_≡_}
 use mathlib.Core.Bool.{Bool, not}
 use mathlib.Core.List.{List, [], _∷_}

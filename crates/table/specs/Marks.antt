@@ -5,7 +5,7 @@ use mathlib.Core.Path.{_≡_}
 use mathlib.Core.Bool.{Bool, true}
 use mathlib.Core.List.{List, [], _∷_}
 use lib.ListN.{length, getD}
-use lib.Dec.{ltb, leb, eqb}
+use lib.Dec.{ltb, eqb}
 use Rattle.tally.specs.Tests.{pick, all}
 use Rattle.tally.specs.Counts.{allBelow}
 use Rattle.octets.specs.Numbers.{pairOf}

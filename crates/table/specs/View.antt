@@ -1,6 +1,5 @@
 -- Which list of places a table is: what the model of the rules sees of the numbers and the octets.
 -- The stored octets are read by the reader's own definitions.
-use Prim.Native.Nat.{ℕ}
 use mathlib.Core.Option.{Option, none, some}
 use lib.Dec.{eqb}
 use Rattle.tally.specs.Tests.{pick}

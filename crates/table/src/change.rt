@@ -10,7 +10,9 @@ ghost use Rattle.table.specs.Calls.{Does, passed, refusalWhenUnfit, link
 use crate::fitness::is_fit;
 use crate::place::release;
 use crate::starting::Answer;
+use crate::starting::NO_PORT;
 use crate::starting::Outcome;
+use crate::starting::UNFIT;
 use crate::starting::refuse;
 use numbers::PLACES;
 use numbers::PORTS;
@@ -83,7 +85,7 @@ pub fn seconds_passed(t: Table, buffer: &mut [u8], seconds: u16) -> Outcome
             answer: Answer::Done,
         };
     }
-    refuse(t, 1)
+    refuse(t, UNFIT)
 }
 
 pub fn link_lost(t: Table, buffer: &mut [u8], port: usize) -> Outcome
@@ -97,7 +99,7 @@ pub fn link_lost(t: Table, buffer: &mut [u8], port: usize) -> Outcome
                 answer: Answer::Done,
             };
         }
-        return refuse(t, 2);
+        return refuse(t, NO_PORT);
     }
-    refuse(t, 1)
+    refuse(t, UNFIT)
 }

@@ -1,14 +1,12 @@
 // Whether a table is fit (N5): buffer length, shares, every place by itself, no identity twice; in the order of their cost.
 // Each LLDPDU is walked once. Identities are compared only where their marks are equal.
 ghost use mathlib.Core.Path.{_≡_};
-ghost use Prim.Native.Nat.{_≤_, _<_};
-ghost use mathlib.Core.Bool.{not};
+ghost use Prim.Native.Nat.{_<_};
 ghost use lib.ListN.{length};
 ghost use Rattle.tally.specs.Counts.{allBelow};
-ghost use Rattle.rules.specs.Identity.{Ident};
 ghost use Rattle.numbers.specs.Sizes.{places};
 ghost use Rattle.table.specs.State.{octets, at, state, whoAt, isOf, says, ident};
-ghost use Rattle.table.specs.Fit.{okPlace, single, fit};
+ghost use Rattle.table.specs.Fit.{single, fit};
 ghost use Rattle.table.specs.Marks.{lastTwo, markOf, checkFree, checkUsed, checkPlace, Marked, Checks};
 use crate::place::OCTETS;
 use crate::place::SIZE;

@@ -14,6 +14,8 @@ use crate::fitness::is_fit;
 use crate::fitness::is_of;
 use crate::place::release;
 use crate::place::store;
+use crate::starting::NO_PORT;
+use crate::starting::UNFIT;
 use lldpdu::Extent;
 use lldpdu::Outline;
 use lldpdu::text_of;
@@ -25,6 +27,11 @@ use numbers::room_of;
 use reader::outline_frame;
 use rules::Reply;
 use rules::Room;
+
+// The refusals of a new one for want of room (R7, R8).
+const PORT_FULL: u8 = 7;
+
+const COMMON_TAKEN: u8 = 8;
 
 pub struct Reception {
     pub table: Table,
@@ -76,8 +83,8 @@ fn hear_new(t: Table, buffer: &mut [u8], p: u8, seconds: u16, l: &[u8]) -> Recep
         return reply_with(t, Reply::UnknownGoodbye);
     }
     match room_of(t, p as usize) {
-        Room::Full => reply_with(t, Reply::Refused(7)),
-        Room::Taken => reply_with(t, Reply::Refused(8)),
+        Room::Full => reply_with(t, Reply::Refused(PORT_FULL)),
+        Room::Taken => reply_with(t, Reply::Refused(COMMON_TAKEN)),
         Room::Enough => {
             let u = store(t, buffer, first_free(t), p, seconds, l);
             reply_with(u, Reply::Recorded)
@@ -103,7 +110,7 @@ pub fn frame_on_port(t: Table, buffer: &mut [u8], port: usize, frame: &[u8]) -> 
 {
     if is_fit(t, buffer) {
         if port >= PORTS {
-            return reply_with(t, Reply::Refused(2));
+            return reply_with(t, Reply::Refused(NO_PORT));
         }
         let o = outline_frame(frame);
         let extent = o.extent;
@@ -117,5 +124,5 @@ pub fn frame_on_port(t: Table, buffer: &mut [u8], port: usize, frame: &[u8]) -> 
             }
         }
     }
-    reply_with(t, Reply::Refused(1))
+    reply_with(t, Reply::Refused(UNFIT))
 }

@@ -8,6 +8,8 @@ ghost use Rattle.table.specs.State.{octets, at, state};
 ghost use Rattle.table.specs.Sight.{Counted, namingAt, sightFrom, Sees};
 use crate::fitness::is_fit;
 use crate::place::lldpdu_at;
+use crate::starting::NO_PORT;
+use crate::starting::UNFIT;
 use numbers::PLACES;
 use numbers::PORTS;
 use numbers::Table;
@@ -39,9 +41,9 @@ pub fn how_many(t: Table, buffer: &[u8], port: usize) -> Count
         if port < PORTS {
             return Count::Holds(held(t, port));
         }
-        return Count::Refused(2);
+        return Count::Refused(NO_PORT);
     }
-    Count::Refused(1)
+    Count::Refused(UNFIT)
 }
 
 fn naming_at(t: Table, buffer: &[u8], address: [u8; 6], i: usize) -> Naming
@@ -85,5 +87,5 @@ pub fn who_sees(t: Table, buffer: &[u8], address: [u8; 6], from: usize) -> Sight
     if is_fit(t, buffer) {
         return sight_from(t, buffer, address, from);
     }
-    Sight::Refused(1)
+    Sight::Refused(UNFIT)
 }

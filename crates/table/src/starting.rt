@@ -8,6 +8,11 @@ use numbers::PLACES;
 use numbers::Table;
 use octets::clear;
 
+// The refusals of a table that is not fit, and of a port that there is not (R1, R2).
+pub(crate) const UNFIT: u8 = 1;
+
+pub(crate) const NO_PORT: u8 = 2;
+
 pub enum Answer {
     Done,
     Refused(u8),
@@ -32,7 +37,7 @@ pub fn start(t: Table, buffer: &mut [u8]) -> Outcome
     ensures { λ r. ⌜ Does r (now (buffer .exit)) (started (state t (now (buffer .entry)))) (refusalAtStart (state t (now (buffer .entry)))) ⌝ }
 {
     if buffer.len() != OCTETS {
-        return refuse(t, 1);
+        return refuse(t, UNFIT);
     }
     clear(buffer);
     Outcome {

@@ -9,8 +9,9 @@ use native.Mathlib.Numerals.{add-one}
 use native.Mathlib.Omega.{arith}
 use borrow.Author.Tests.{eqb-true, eqb-false, ne-eqb}
 use lib.Dec.{eqb}
-use Rattle.tally.specs.Tests.{pick, both}
+use Rattle.tally.specs.Tests.{pick}
 use Rattle.tally.specs.Counts.{one, count, sum, allBelow, firstFrom}
+use Rattle.tally.proofs.TestsLaws.{both-false}
 
 -- How many pass
 
@@ -80,10 +81,6 @@ sum-one p (suc n) l = go (eqb p n) refl (sum-one p n)
     go false e ih = omega (arith, ih (omega (arith, eqb-false p n e)))
 
 -- Whether all pass
-
-pub both-false : (b : Bool) → both b false ≡ false
-both-false true = refl
-both-false false = refl
 
 module _ (f : ℕ → Bool) where
   pub all-none : allBelow f 0 ≡ true

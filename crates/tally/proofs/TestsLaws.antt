@@ -1,10 +1,13 @@
--- Laws of joined tests: what a conjunction that holds says of its parts.
+-- Laws of tests: what a conjunction that holds says of its parts, and one bound asked from either side.
 -- `held` takes any list of tests apart in one step.
 use Prim.{Unit, tt}
-use Prim.Native.Nat.{ℕ, zero, suc}
+use Prim.Native.Nat.{ℕ, zero, suc, _≤_}
 use mathlib.Core.Path.{_≡_, refl}
 use mathlib.Core.List.{List, [], _∷_}
-use mathlib.Core.Bool.{Bool, true, false}
+use mathlib.Core.Bool.{Bool, true, false, not}
+use native.Mathlib.Omega.{arith}
+use borrow.Author.Tests.{eqb-true, eqb-false, ltb-true, ltb-false, lt-ltb, le-ltb, lt-leb, le-leb}
+use lib.Dec.{leb, ltb, eqb}
 use lib.ListN.{getD}
 use Rattle.tally.specs.Tests.{both, either, all}
 
@@ -16,6 +19,10 @@ both-true false b e = (e, let z : _≡_ {A = Bool} false true = e in cc)
 pub both-end : (a : Bool) → both a true ≡ a
 both-end true = refl
 both-end false = refl
+
+pub both-false : (a : Bool) → both a false ≡ false
+both-false true = refl
+both-false false = refl
 
 pub either-right : (a b : Bool) → b ≡ true → either a b ≡ true
 either-right true b e = refl
@@ -36,3 +43,19 @@ all-fails [] k e = let z : _≡_ {A = Bool} true false = e in cc
 all-fails (b ∷ l) zero e = rw e
 all-fails (true ∷ l) (suc k) e = all-fails l k e
 all-fails (false ∷ l) (suc k) e = refl
+
+-- a bound asked from either side
+pub not-below : (m n : ℕ) → leb n m ≡ not (ltb m n)
+not-below m n = go (ltb m n) refl
+  where
+    go : (b : Bool) → ltb m n ≡ b → leb n m ≡ not b
+    go true e = lt-leb n m (ltb-true m n e)
+    go false e = le-leb n m (ltb-false m n e)
+
+-- what is no more than a bound is below it or is it
+pub below-or-at : (h m : ℕ) → h ≤ m → ltb h m ≡ not (eqb h m)
+below-or-at h m l = go (eqb h m) refl
+  where
+    go : (b : Bool) → eqb h m ≡ b → ltb h m ≡ not b
+    go true e = le-ltb h m (omega (arith, eqb-true h m e))
+    go false e = lt-ltb h m (omega (arith, eqb-false h m e))

@@ -1,7 +1,7 @@
 -- Counting, summing and searching over the numbers below a number.
 -- The recursion is on the count, as a loop that counts goes.
 use Prim.Native.Nat.{ℕ, zero, suc, _+_}
-use mathlib.Core.Bool.{Bool, true, false}
+use mathlib.Core.Bool.{Bool, true}
 use Rattle.tally.specs.Tests.{pick, both}
 
 abbrev pub one : Bool → ℕ

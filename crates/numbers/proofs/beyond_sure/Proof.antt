@@ -1,6 +1,6 @@
 -- `numbers::beyond_sure` meets its contract: after p turns the sum is that over the ports below p.
 -- No port holds more than there are places (holds-le), so the sum fits.
-use Prim.Native.Nat.{_+_, _*_, _-_, _≤_}
+use Prim.Native.Nat.{_*_, _-_, _≤_}
 use mathlib.Core.Path.{_≡_, sym, _∙_}
 use mathlib.Core.Logic.{⊎-elim}
 use native.Mathlib.Omega.{arith}

@@ -1,6 +1,6 @@
 -- `numbers::held` meets its contract: after i turns n counts the used places of the port below i.
 -- The count is at most the number of places (count-le), so it fits.
-use Prim.Native.Nat.{_+_, _-_, _≤_}
+use Prim.Native.Nat.{_-_, _≤_}
 use mathlib.Core.Path.{_≡_, ap, sym, _∙_}
 use mathlib.Core.Logic.{⊎-elim}
 use mathlib.Core.Bool.{true, false}

@@ -6,7 +6,7 @@ use Prim.Native.Nat.{ℕ, _+_, _-_, _*_}
 use native.Mathlib.Omega.{arith}
 use denote.Ref.{now}
 use borrow.Author.Needs.{needs}
-use lib.ListN.{length, take, drop}
+use lib.ListN.{take, drop}
 use Rattle.octets.proofs.PartLaws.{part-is, part-from}
 use Rattle.table.specs.State.{size, at, state}
 use Rattle.table.specs.Marks.{checkFree, checkUsed}

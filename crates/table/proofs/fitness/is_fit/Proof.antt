@@ -4,7 +4,7 @@ use mathlib.Core.Path.{sym, _∙_}
 use denote.Ref.{now}
 use borrow.Author.Needs.{needs}
 use Rattle.table.specs.State.{state}
-use Rattle.table.proofs.FitnessLaws.{unfit-length, unfit-shares, unfit-places, fit-by}
+use Rattle.table.proofs.FitLaws.{unfit-length, unfit-shares, unfit-places, fit-by}
 use Rattle.table.proofs.fitness.is_fit.Statement.{statement}
 use Rattle.table.proofs.fitness.is_fit.Tie as tie
 

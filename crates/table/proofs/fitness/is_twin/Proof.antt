@@ -5,7 +5,6 @@ use mathlib.Core.List.{List}
 use Prim.Native.Nat.{ℕ}
 use denote.Ref.{now}
 use borrow.Author.Needs.{needs}
-use Rattle.lldpdu.specs.Outline.{textOf, outlineOf}
 use Rattle.rules.specs.Identity.{Ident}
 use Rattle.rules.specs.Events.{whose}
 use Rattle.table.specs.State.{at, state, ident, said, isOf}
