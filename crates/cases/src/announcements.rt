@@ -2,13 +2,14 @@
 // A case is the numbers and parts of a description, the room of the output, and the text that the parts lie in.
 ghost use Prim.Native.Nat.{_<_, _≤_};
 ghost use lib.ListN.{length};
-use crate::say::say;
-use crate::say::say_number;
-use crate::say::say_octets;
-use crate::say::say_reading;
-use crate::say::say_title;
-use lldpdu::Part;
-use lldpdu::text_of;
+use crate::print::AGAIN;
+use crate::print::AGAIN_REFUSED;
+use crate::print::OUTPUT;
+use crate::print::REFUSED;
+use crate::print::WROTE;
+use crate::print::say;
+use crate::print::say_reading;
+use crate::print::say_two;
 use octets::octet;
 use octets::pair;
 use octets::six;
@@ -16,28 +17,28 @@ use octets::value_of;
 use reader::AddressList;
 use reader::Description;
 use reader::Link;
-use reader::Reading;
+use reader::Part;
 use reader::read_lldpdu;
+use reader::text_of;
 use writer::Written;
 use writer::write;
 
-// The octets of a case before its text; the most octets of a text and of an output.
-const HEAD: usize = 175;
+// The octets of a case before its text.
+const HEAD: u32 = 175;
 
-const MOST: usize = 2000;
-
+// The most octets of an output.
 const ROOM: usize = 1600;
 
 // What every octet of an output has before the call, so that what was not written shows (W4).
 const UNTOUCHED: u8 = 0xEE;
 
 // Eight octets as one number, high octet first.
-fn number_at(head: &[u8], at: usize) -> usize
+fn number_at(octets: &[u8], at: usize) -> usize
     requires { ⌜ at < 1000 ⌝ }
 {
-    let high = value_of(text_of(head, Part { start: at, len: 4 }));
+    let high = value_of(text_of(octets, Part { start: at, len: 4 }));
     let low = value_of(text_of(
-        head,
+        octets,
         Part {
             start: at + 4,
             len: 4,
@@ -46,74 +47,47 @@ fn number_at(head: &[u8], at: usize) -> usize
     (high as usize) << 32 | low as usize
 }
 
-fn part_at(head: &[u8], at: usize) -> Part
+fn part_at(octets: &[u8], at: usize) -> Part
     requires { ⌜ at < 900 ⌝ }
 {
     Part {
-        start: number_at(head, at),
-        len: number_at(head, at + 8),
+        start: number_at(octets, at),
+        len: number_at(octets, at + 8),
     }
 }
 
-fn link_at(head: &[u8]) -> Link {
-    if octet(head, 105) == 0 {
+fn link_at(octets: &[u8]) -> Link {
+    if octet(octets, 105) == 0 {
         return Link::Absent;
     }
     Link::Table {
-        interface: part_at(head, 106),
-        port: part_at(head, 122),
-        addresses: part_at(head, 138),
+        interface: part_at(octets, 106),
+        port: part_at(octets, 122),
+        addresses: part_at(octets, 138),
     }
 }
 
-fn list_at(head: &[u8]) -> AddressList {
-    if octet(head, 154) == 0 {
+fn list_at(octets: &[u8]) -> AddressList {
+    if octet(octets, 154) == 0 {
         return AddressList::Absent;
     }
-    AddressList::Listed(part_at(head, 155))
+    AddressList::Listed(part_at(octets, 155))
 }
 
-fn description_at(head: &[u8]) -> Description {
+fn description_at(octets: &[u8]) -> Description {
     Description {
-        chassis: six(head, 0),
-        subtype: octet(head, 6),
-        port: part_at(head, 9),
-        seconds: pair(octet(head, 7), octet(head, 8)),
-        words: part_at(head, 25),
-        category: part_at(head, 41),
-        manufacturer: part_at(head, 57),
-        model: part_at(head, 73),
-        number: part_at(head, 89),
-        link: link_at(head),
-        list: list_at(head),
+        chassis: six(octets, 0),
+        subtype: octet(octets, 6),
+        port: part_at(octets, 9),
+        seconds: pair(octet(octets, 7), octet(octets, 8)),
+        words: part_at(octets, 25),
+        category: part_at(octets, 41),
+        manufacturer: part_at(octets, 57),
+        model: part_at(octets, 73),
+        number: part_at(octets, 89),
+        link: link_at(octets),
+        list: list_at(octets),
     }
-}
-
-// What was read, written again.
-fn say_again(case: usize, lldpdu: &[u8], r: Reading) {
-    let mut out = [UNTOUCHED; ROOM];
-    let d = r.description;
-    say_title(case, b" again ");
-    match write(d, lldpdu, &mut out) {
-        Written::Octets(n) => {
-            say_number(n);
-            say(b" ");
-            say_octets(text_of(&out, Part { start: 0, len: n }));
-        }
-        Written::Refused(n) => {
-            say(b"refused ");
-            say_number(n as usize);
-        }
-    }
-    say(b"\n");
-}
-
-fn say_back(case: usize, lldpdu: &[u8]) {
-    let r = read_lldpdu(lldpdu);
-    say_title(case, b" reading ");
-    say_reading(lldpdu, r);
-    say(b"\n");
-    say_again(case, lldpdu, r);
 }
 
 // The octets of an output without those at its end that have the untouched value.
@@ -132,61 +106,75 @@ fn touched(out: &[u8]) -> usize
 
 fn say_output(case: usize, out: &[u8]) {
     let n = touched(out);
-    say_title(case, b" output ");
-    say_octets(&out[0..n]);
-    say(b" rest ");
-    say_number(out.len() - n);
-    say(b"\n");
+    say(OUTPUT, [case, 0, n, out.len() - n, 0, 0, 0, 0, 0, 0], out);
 }
 
-fn answer(case: usize, d: Description, text: &[u8], out: &mut [u8]) {
-    match write(d, text, out) {
+// What was read, written again.
+fn say_again(case: usize, lldpdu: &[u8]) {
+    let r = read_lldpdu(lldpdu);
+    let d = r.description;
+    let mut out = [UNTOUCHED; ROOM];
+    match write(d, lldpdu, &mut out) {
+        Written::Refused(n) => say_two(AGAIN_REFUSED, case, n as usize, lldpdu),
+        Written::Octets(n) => say_two(AGAIN, case, n, text_of(&out, Part { start: 0, len: n })),
+    }
+}
+
+fn say_answer(case: usize, w: Written, out: &[u8]) {
+    match w {
         Written::Refused(n) => {
-            say_title(case, b" refused ");
-            say_number(n as usize);
-            say(b"\n");
+            say_two(REFUSED, case, n as usize, out);
             say_output(case, out);
         }
         Written::Octets(n) => {
-            say_title(case, b" wrote ");
-            say_number(n);
-            say(b"\n");
+            let lldpdu = text_of(out, Part { start: 0, len: n });
+            say_two(WROTE, case, n, out);
             say_output(case, out);
-            say_back(case, text_of(out, Part { start: 0, len: n }));
+            say_reading(case, lldpdu, read_lldpdu(lldpdu));
+            say_again(case, lldpdu);
         }
     }
 }
 
-// The text of a case, as many octets as `text` has room for; false where the file is over.
-fn run_text(fd: i32, case: usize, d: Description, text: &mut [u8], out: &mut [u8]) -> bool {
-    let n = io::read_full(fd, text);
-    if n < text.len() {
-        return false;
+// The writer's answer, where its output is the front of a longer one.
+fn written(d: Description, text: &[u8], room: usize, out: &mut [u8]) -> Written {
+    if room > out.len() {
+        return Written::Refused(0);
     }
-    answer(case, d, text, out);
-    true
+    write(d, text, &mut out[..room])
 }
 
-fn run_sized(fd: i32, case: usize, d: Description, length: usize, room: usize) -> bool {
-    if length > MOST {
-        return false;
-    }
-    if room > ROOM {
-        return false;
-    }
-    let mut text = [0u8; MOST];
+fn answer(case: usize, d: Description, text: &[u8], room: usize) {
     let mut out = [UNTOUCHED; ROOM];
-    run_text(fd, case, d, &mut text[..length], &mut out[..room])
+    let w = written(d, text, room, &mut out);
+    say_answer(
+        case,
+        w,
+        text_of(
+            &out,
+            Part {
+                start: 0,
+                len: room,
+            },
+        ),
+    );
 }
 
-// One case; false where the file is over.
-pub(crate) fn run_case(fd: i32, case: usize) -> bool {
-    let mut head = [0u8; HEAD];
-    let got = io::read_full(fd, &mut head);
-    if got < HEAD {
-        return false;
-    }
-    let room = pair(octet(&head, 171), octet(&head, 172)) as usize;
-    let length = pair(octet(&head, 173), octet(&head, 174)) as usize;
-    run_sized(fd, case, description_at(&head), length, room)
+// The case at the front of the octets; how many of them it has.
+pub(crate) fn run_case(case: usize, octets: &[u8]) -> u32 {
+    let room = pair(octet(octets, 171), octet(octets, 172)) as usize;
+    let length = pair(octet(octets, 173), octet(octets, 174));
+    answer(
+        case,
+        description_at(octets),
+        text_of(
+            octets,
+            Part {
+                start: 175,
+                len: length as usize,
+            },
+        ),
+        room,
+    );
+    HEAD + length as u32
 }

@@ -1,62 +1,22 @@
-// The desk: a table, the store that its buffer is lent from, and what was kept of both.
+// What a record does to a table, to the store that its buffer is lent from, and to the octets that were kept of the store.
 // A record is a call (kinds 0 to 5), a preparation without a word (6 to 12), or a spoiled table (13).
 ghost use Prim.Native.Nat.{_<_};
 use crate::answers::answer;
-use crate::answers::answer_spoiled;
 use crate::record::Record;
 use octets::octet;
 use table::OCTETS;
 use table::PLACES;
 use table::Table;
+use whole::fill;
 
 // The octets of a place (N1).
-const PLACE: usize = 1500;
+const PLACE: usize = OCTETS / PLACES;
 
-// The octets beside it are the store and those that were kept.
-pub(crate) struct Desk {
-    table: Table,
-    kept: Table,
-    lent: usize,
-}
-
-fn empty_table() -> Table {
+pub(crate) fn empty() -> Table {
     Table {
         port: [0; PLACES],
         seconds: [0; PLACES],
         length: [0; PLACES],
-    }
-}
-
-pub(crate) fn empty() -> Desk {
-    Desk {
-        table: empty_table(),
-        kept: empty_table(),
-        lent: OCTETS,
-    }
-}
-
-fn with_table(d: Desk, t: Table) -> Desk {
-    let kept = d.kept;
-    Desk {
-        table: t,
-        kept,
-        lent: d.lent,
-    }
-}
-
-fn with_lent(d: Desk, octets: usize) -> Desk {
-    let t = d.table;
-    let kept = d.kept;
-    Desk {
-        table: t,
-        kept,
-        lent: octets,
-    }
-}
-
-fn copy(from: &[u8], to: &mut [u8]) {
-    for i in 0..to.len() {
-        to[i] = octet(from, i);
     }
 }
 
@@ -106,80 +66,73 @@ fn set_number(t: Table, kind: u8, place: usize, value: u16) -> Table {
     u
 }
 
-// The buffer lent has another length (6), a number (7 to 9) or an octet (10) becomes another one, a place is
-// copied (11), or table and store are kept (12).
-fn prepare(r: Record, d: Desk, store: &mut [u8], kept: &mut [u8]) -> Desk {
+// A number (7 to 9) or an octet (10) becomes another one, or a place is copied (11).
+fn spoil(r: Record, t: Table, store: &mut [u8]) -> Table {
     let kind = r.kind;
-    let t = d.table;
-    match kind {
-        6 => with_lent(d, r.number),
-        7 | 8 | 9 => with_table(d, set_number(t, kind, r.number, r.value)),
-        10 => {
-            put(store, r.number, (r.value % 256) as u8);
-            d
-        }
-        11 => with_table(d, copy_place(t, store, r.number, r.value as usize)),
-        _ => {
-            copy(store, kept);
-            Desk {
-                table: t,
-                kept: t,
-                lent: d.lent,
-            }
-        }
+    if kind < 10 {
+        return set_number(t, kind, r.number, r.value);
     }
+    if kind == 10 {
+        put(store, r.number, (r.value % 256) as u8);
+        return t;
+    }
+    copy_place(t, store, r.number, r.value as usize)
 }
 
-fn run_call(case: usize, r: Record, d: Desk, frame: &[u8], store: &mut [u8]) -> Desk {
-    let lent = d.lent;
-    let t = d.table;
-    if lent > store.len() {
-        return d;
-    }
-    with_table(d, answer(case, r, t, &mut store[0..lent], frame))
-}
-
-fn run_trial(case: usize, r: Record, d: Desk, frame: &[u8], store: &mut [u8]) {
-    let lent = d.lent;
-    let t = d.table;
-    if lent > store.len() {
-        return;
-    }
-    answer_spoiled(case, r, t, &mut store[0..lent], frame);
-}
-
-// A spoiled table is tried, and the kept one is taken back.
-fn run_spoiled(
+// The calls have the front of the store for a buffer, where the store is that long.
+fn run_calls(
     case: usize,
     r: Record,
-    d: Desk,
+    t: Table,
+    lent: usize,
     frame: &[u8],
     store: &mut [u8],
-    kept: &[u8],
-) -> Desk {
-    run_trial(case, r, d, frame, store);
-    copy(kept, store);
-    let t = d.kept;
-    Desk {
-        table: t,
-        kept: t,
-        lent: OCTETS,
+) -> Table {
+    if lent > store.len() {
+        return t;
     }
+    answer(case, r, t, &mut store[0..lent], frame)
 }
 
+// What a record does to the table and to the store. Kind 12 keeps the store, and kind 13 takes it back.
 pub(crate) fn run(
     case: usize,
     r: Record,
-    d: Desk,
+    t: Table,
+    lent: usize,
     frame: &[u8],
     store: &mut [u8],
     kept: &mut [u8],
-) -> Desk {
-    if r.kind < 6 {
-        return run_call(case, r, d, frame, store);
+) -> Table {
+    let kind = r.kind;
+    match kind {
+        6 => t,
+        7..=11 => spoil(r, t, store),
+        12 => {
+            fill(kept, store);
+            t
+        }
+        13 => {
+            let u = run_calls(case, r, t, lent, frame, store);
+            fill(store, kept);
+            u
+        }
+        _ => run_calls(case, r, t, lent, frame, store),
     }
-    if r.kind < 13 {
-        return prepare(r, d, store, kept);
+}
+
+// The first of two tables, or the second.
+pub(crate) fn chosen(first: bool, t: Table, u: Table) -> Table {
+    if first { t } else { u }
+}
+
+// How many octets of the store the next call has for a buffer: kind 6 says another number.
+pub(crate) fn lent_behind(r: Record, lent: usize) -> usize {
+    if r.kind == 6 {
+        return r.number;
     }
-    run_spoiled(case, r, d, frame, store, kept)
+    if r.kind == 13 {
+        return OCTETS;
+    }
+    lent
 }

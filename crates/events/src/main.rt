@@ -2,79 +2,52 @@
 // The output was made by the independent program in twin/; nothing of it comes from this one.
 mod answers;
 mod desk;
+mod print;
 mod record;
-mod say;
 
-use desk::Desk;
-use record::Record;
+use reader::Part;
+use reader::text_of;
+use record::FILE;
+use table::OCTETS;
 
-// No frame has more octets than this.
-const MOST: usize = 2000;
+// A proved loop has to end, so the records are counted; the file has fewer.
+const RECORDS: usize = 100000;
 
 // Octets that buffers are lent from: more than a table needs, so that a buffer can be too long.
 const STORE: usize = 50000;
 
-// What became of the desk, and whether there was a record.
-struct Step {
-    desk: Desk,
-    more: bool,
+// Room for the file and for two stores. Each is a call's result so that no proof has to count its octets.
+fn room() -> [u8; FILE] {
+    [0; FILE]
 }
 
-// The octets of a record, as many as `frame` has room for.
-fn run_octets(
-    fd: i32,
-    case: usize,
-    r: Record,
-    d: Desk,
-    frame: &mut [u8],
-    store: &mut [u8],
-    kept: &mut [u8],
-) -> Step {
-    let n = io::read_full(fd, frame);
-    if n < frame.len() {
-        return Step {
-            desk: d,
-            more: false,
-        };
-    }
-    Step {
-        desk: desk::run(case, r, d, frame, store, kept),
-        more: true,
-    }
+fn store() -> [u8; STORE] {
+    [0; STORE]
 }
 
-fn run_record(fd: i32, case: usize, d: Desk, store: &mut [u8], kept: &mut [u8]) -> Step {
-    let mut head = [0u8; record::HEAD];
-    let got = io::read_full(fd, &mut head);
-    let r = record::record_at(&head);
-    let length = r.length;
-    if got < record::HEAD {
-        return Step {
-            desk: d,
-            more: false,
-        };
-    }
-    if length > MOST {
-        return Step {
-            desk: d,
-            more: false,
-        };
-    }
-    let mut frame = [0u8; MOST];
-    run_octets(fd, case, r, d, &mut frame[0..length], store, kept)
-}
-
-// A proved loop has to end, so the records are counted; the file has fewer.
-fn run_all(fd: i32, store: &mut [u8], kept: &mut [u8]) {
-    let mut d = desk::empty();
-    let mut case = 1;
-    while case < 100000 {
-        let step = run_record(fd, case, d, store, kept);
-        if !step.more {
+// Kind 12 keeps the table beside its store, and kind 13 takes both back.
+fn run_all(file: &[u8], store: &mut [u8], kept: &mut [u8]) {
+    let mut t = desk::empty();
+    let mut k = desk::empty();
+    let mut lent = OCTETS;
+    let mut at = 0;
+    for case in 1..RECORDS {
+        if at >= file.len() {
             return;
         }
-        d = step.desk;
-        case += 1;
+        let octets = text_of(
+            file,
+            Part {
+                start: at,
+                len: FILE,
+            },
+        );
+        let r = record::record_at(octets);
+        let u = desk::run(case, r, t, lent, record::frame_at(octets, r), store, kept);
+        k = desk::chosen(r.kind == 12, t, k);
+        t = desk::chosen(r.kind == 13, k, u);
+        lent = desk::lent_behind(r, lent);
+        at = record::next(at, r);
     }
 }
 
@@ -84,8 +57,14 @@ fn main() {
         os::fail(b"events");
         return;
     }
-    let mut store = [0u8; STORE];
-    let mut kept = [0u8; STORE];
-    run_all(fd, &mut store, &mut kept);
+    let mut file = room();
+    let n = io::read_full(fd, &mut file);
     libc::close(fd);
+    let mut octets = store();
+    let mut kept = store();
+    run_all(
+        text_of(&file, Part { start: 0, len: n }),
+        &mut octets,
+        &mut kept,
+    );
 }

@@ -1,33 +1,56 @@
 // A record of the file `events`: a kind, a number of eight octets, a value of two, an address, a length of two.
 // As many octets as the length says follow it; they are a frame.
-use lldpdu::Part;
-use lldpdu::text_of;
 use octets::octet;
 use octets::pair;
 use octets::six;
 use octets::value_of;
+use reader::Part;
+use reader::text_of;
 
-pub(crate) const HEAD: usize = 19;
+// The octets of a record before its frame; the file has fewer than so many.
+const HEAD: usize = 19;
+
+pub(crate) const FILE: usize = 900000;
 
 pub(crate) struct Record {
     pub(crate) kind: u8,
     pub(crate) number: usize,
     pub(crate) value: u16,
     pub(crate) address: [u8; 6],
-    pub(crate) length: usize,
+    pub(crate) length: u16,
 }
 
 // Four octets as one number, high octet first.
-fn half_at(head: &[u8], at: usize) -> usize {
-    value_of(text_of(head, Part { start: at, len: 4 })) as usize
+fn half_at(octets: &[u8], at: usize) -> usize {
+    value_of(text_of(octets, Part { start: at, len: 4 })) as usize
 }
 
-pub(crate) fn record_at(head: &[u8]) -> Record {
+// The record at the front of the octets.
+pub(crate) fn record_at(octets: &[u8]) -> Record {
     Record {
-        kind: octet(head, 0),
-        number: half_at(head, 1) << 32 | half_at(head, 5),
-        value: pair(octet(head, 9), octet(head, 10)),
-        address: six(head, 11),
-        length: pair(octet(head, 17), octet(head, 18)) as usize,
+        kind: octet(octets, 0),
+        number: half_at(octets, 1) << 32 | half_at(octets, 5),
+        value: pair(octet(octets, 9), octet(octets, 10)),
+        address: six(octets, 11),
+        length: pair(octet(octets, 17), octet(octets, 18)),
     }
+}
+
+// The frame behind the record.
+pub(crate) fn frame_at(octets: &[u8], r: Record) -> &[u8] {
+    text_of(
+        octets,
+        Part {
+            start: HEAD,
+            len: r.length as usize,
+        },
+    )
+}
+
+// Where the next record starts, behind the one that starts at an octet of the file.
+pub(crate) fn next(at: usize, r: Record) -> usize {
+    if at >= FILE {
+        return at;
+    }
+    at + HEAD + r.length as usize
 }

@@ -13,9 +13,9 @@ use Rattle.tally.specs.Tests.{pick, both, all}
 use Rattle.tally.proofs.TestsLaws.{both-true}
 use Rattle.fields.specs.Text.{textOk}
 use Rattle.fields.specs.Device.{wantedOf, onWanted, deviceOf}
-use Rattle.fields.specs.Link.{linkOk, listOk}
+use Rattle.links.specs.Link.{linkOk, listOk}
 use Rattle.fields.specs.Field.{link, topics, descriptionOf, linkOf, listOf, isTtc, ttcOf, fieldOf}
-use Rattle.fields.proofs.LinkLaws.{link-has}
+use Rattle.links.proofs.LinkLaws.{link-has}
 use Rattle.fields.specs.declared.Wanted.{Wanted}
 use Rattle.fields.specs.declared.Wanted.the-variants.{Text, Free, Vendor}
 use Rattle.fields.specs.declared.Field.{Field}

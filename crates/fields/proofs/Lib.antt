@@ -2,6 +2,5 @@
 -- `field-fits` of FieldLaws is what the reader needs.
 pub mod TextLaws
 pub mod DeviceLaws
-pub mod LinkLaws
 pub mod FieldLaws
 pub mod Sole

@@ -4,11 +4,6 @@ use mathlib.Core.Path.{sym, _∙_}
 use Rattle.tally.proofs.Sole.{Sole}
 use Rattle.fields.proofs.field_of.Kinds as field-of-kinds
 use Rattle.fields.proofs.field_of.Reads as field-of
-use Rattle.fields.proofs.names.Kinds as names-kinds
-use Rattle.fields.proofs.names.Reads as names
 
 pub field-of-sole : Sole 1 field-of-kinds.ps field-of-kinds.r field-of.Post
 field-of-sole κs a r q x y e f = e ∙ sym f
-
-pub names-sole : Sole 1 names-kinds.ps names-kinds.r names.Post
-names-sole κs a r q x y e f = e ∙ sym f

@@ -8,7 +8,7 @@ use lib.Dec.{leb, eqb}
 use Rattle.tally.specs.Tests.{pick, both, all}
 use Rattle.fields.specs.Text.{textOk}
 use Rattle.fields.specs.Device.{deviceOf}
-use Rattle.fields.specs.Link.{linkOk, listOk}
+use Rattle.links.specs.Link.{linkOk, listOk}
 use Rattle.fields.specs.declared.Field.{Field}
 use Rattle.fields.specs.declared.Field.the-variants.{Skipped, Malformed, Says}
 

@@ -1,6 +1,5 @@
--- The definitions of this crate: port description, device information, link information, and what a TLV says.
+-- The definitions of this crate: port description, device information, and what a TLV says.
 -- Each looks at one information string and at nothing behind it.
 pub mod Text
 pub mod Device
-pub mod Link
 pub mod Field

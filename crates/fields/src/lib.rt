@@ -3,11 +3,9 @@
 ghost use mathlib.Core.Path.{_≡_};
 ghost use Rattle.fields.specs.Text.{charOk, textOk};
 ghost use Rattle.fields.specs.Device.{wantedOf, deviceOf};
-ghost use Rattle.fields.specs.Link.{fourOk, linkOk, namesOf};
 ghost use Rattle.fields.specs.Field.{descriptionOf, linkOf, listOf, isTtc, ttcOf, fieldOf};
+use links::link_fits;
 use octets::octet;
-use octets::same_six;
-use octets::six;
 
 // What a field can be about. Topics 1 to 4 are the device information of that ID.
 pub const PORT_DESCRIPTION: usize = 0;
@@ -133,32 +131,7 @@ fn device(part: &[u8]) -> Field
     }
 }
 
-// The count of octets of an interface type or of a port number (T7).
-fn one_to_four(n: usize) -> bool
-    ensures { λ r. ⌜ r ≡ fourOk n ⌝ }
-{
-    if n < 1 {
-        return false;
-    }
-    n <= 4
-}
-
-// Link information (T7): n, interface type, m, port number, k, k addresses, and no octet more.
-fn link_fits(part: &[u8]) -> bool
-    ensures { λ r. ⌜ r ≡ linkOk (now (part .entry)) ⌝ }
-{
-    let n = octet(part, 4) as usize;
-    if !one_to_four(n) {
-        return false;
-    }
-    let m = octet(part, 5 + n) as usize;
-    if !one_to_four(m) {
-        return false;
-    }
-    let k = octet(part, 6 + n + m) as usize;
-    part.len() == 7 + n + m + 6 * k
-}
-
+// Link information (T7).
 fn link(part: &[u8]) -> Field
     ensures { λ r. ⌜ r ≡ linkOf (now (part .entry)) ⌝ }
 {
@@ -228,20 +201,4 @@ pub fn field_of(kind: u8, part: &[u8]) -> Field
         }
         _ => Field::Skipped,
     }
-}
-
-// Whether the address is one of those in the information string of a link information field (A4).
-pub fn names(part: &[u8], address: [u8; 6]) -> bool
-    ensures { λ r. ⌜ r ≡ namesOf (now (part .entry)) address ⌝ }
-{
-    let n = octet(part, 4) as usize;
-    let m = octet(part, 5 + n) as usize;
-    let k = octet(part, 6 + n + m) as usize;
-    let first = 7 + n + m;
-    for i in 0..k {
-        if same_six(six(part, first + 6 * i), address) {
-            return true;
-        }
-    }
-    false
 }

@@ -12,15 +12,15 @@ use Rattle.rules.specs.Events.{Event, History}
 use Rattle.rules.specs.Model.{step, run, reply}
 use Rattle.numbers.specs.Sizes.{ports}
 use Rattle.numbers.specs.Numbers.{holds}
-use Rattle.table.specs.State.{State}
-use Rattle.table.specs.Fit.{fit}
-use Rattle.table.specs.Calls.{passed, linkLost, After}
-use Rattle.table.specs.Frame.{heardOf, heard}
-use Rattle.table.specs.Sight.{counted}
-use Rattle.table.specs.View.{view}
-use Rattle.table.specs.declared.starting.Answer.the-variants.{Done, Refused}
-use Rattle.table.specs.declared.sight.Count.the-variants as count-is
-use Rattle.table.proofs.ViewLaws.{holds-view}
+use Rattle.place.specs.State.{State}
+use Rattle.fitness.specs.Fit.{fit}
+use Rattle.freeing.specs.Calls.{passed, linkLost, After}
+use Rattle.hearing.specs.Frame.{heardOf, heard}
+use Rattle.questions.specs.Sight.{counted}
+use Rattle.fitness.specs.View.{view}
+use Rattle.freeing.specs.declared.Answer.the-variants.{Done, Refused}
+use Rattle.questions.specs.declared.Count.the-variants as count-is
+use Rattle.fitness.proofs.ViewLaws.{holds-view}
 use Rattle.table.proofs.StepLaws.{Kept, Stepped, kept-fit, start-fit, passed-is, passed-step, lost-is, lost-out, lost-step, frame-step, frame-answer}
 use Rattle.history.specs.Past.{held, answer}
 use Rattle.history.specs.Demand.{Demand3}

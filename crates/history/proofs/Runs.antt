@@ -11,31 +11,31 @@ use mathlib.Core.List.{List, [], _∷_}
 use lib.Dec.{ltb, eqb}
 use lib.ListN.{length}
 use Rattle.tally.specs.Tests.{pick}
-use Rattle.reader.specs.declared.naming.Number.{Number}
+use Rattle.naming.specs.declared.Number.{Number}
 use Rattle.rules.specs.Events as event
 use Rattle.rules.specs.Events.{Said, Heard, says, History, whose}
 use Rattle.rules.specs.Shares.{sure, most}
 use Rattle.rules.specs.declared.Reply.the-variants.{Recorded, Refreshed, Gone, Refused}
 use Rattle.rules.specs.Model.{Places, reply}
 use Rattle.numbers.specs.Sizes.{ports}
-use Rattle.table.specs.State.{State, octets, state}
-use Rattle.table.specs.Calls.{stateAfter}
-use Rattle.table.specs.Frame.{heardOf, Told, stateTold}
-use Rattle.table.specs.View.{view}
-use Rattle.table.specs.declared.sight.Count.the-variants as count-is
-use Rattle.table.specs.declared.sight.Sight.the-variants.{Nobody, At}
-use Rattle.table.proofs.start.Kinds as start-kinds
-use Rattle.table.proofs.start.Reads as start
-use Rattle.table.proofs.frame_on_port.Kinds as frame-kinds
-use Rattle.table.proofs.frame_on_port.Reads as frame-on-port
-use Rattle.table.proofs.seconds_passed.Kinds as passed-kinds
-use Rattle.table.proofs.seconds_passed.Reads as seconds-passed
-use Rattle.table.proofs.link_lost.Kinds as lost-kinds
-use Rattle.table.proofs.link_lost.Reads as link-lost
-use Rattle.table.proofs.how_many.Kinds as many-kinds
-use Rattle.table.proofs.how_many.Reads as how-many
-use Rattle.table.proofs.who_sees.Kinds as sees-kinds
-use Rattle.table.proofs.who_sees.Reads as who-sees
+use Rattle.place.specs.State.{State, octets, state}
+use Rattle.freeing.specs.Calls.{stateAfter}
+use Rattle.hearing.specs.Frame.{heardOf, Told, stateTold}
+use Rattle.fitness.specs.View.{view}
+use Rattle.questions.specs.declared.Count.the-variants as count-is
+use Rattle.questions.specs.declared.Sight.the-variants.{Nobody, At}
+use Rattle.freeing.proofs.start.Kinds as start-kinds
+use Rattle.freeing.proofs.start.Reads as start
+use Rattle.hearing.proofs.frame_on_port.Kinds as frame-kinds
+use Rattle.hearing.proofs.frame_on_port.Reads as frame-on-port
+use Rattle.freeing.proofs.seconds_passed.Kinds as passed-kinds
+use Rattle.freeing.proofs.seconds_passed.Reads as seconds-passed
+use Rattle.freeing.proofs.link_lost.Kinds as lost-kinds
+use Rattle.freeing.proofs.link_lost.Reads as link-lost
+use Rattle.questions.proofs.how_many.Kinds as many-kinds
+use Rattle.questions.proofs.how_many.Reads as how-many
+use Rattle.questions.proofs.who_sees.Kinds as sees-kinds
+use Rattle.questions.proofs.who_sees.Reads as who-sees
 use Rattle.history.specs.Past.{held, answer}
 use Rattle.history.specs.Words.{Neighbour}
 use Rattle.history.specs.Demand.{New, CommonTaken, Demand3}

@@ -11,18 +11,18 @@ use borrow.Author.Tests.{ltb-true, ltb-false}
 use lib.Dec.{ltb}
 use lib.ListN.{getD, List·getD-eq-default}
 use Rattle.lldpdu.specs.Extent.{extentOf}
-use Rattle.reader.specs.Naming as naming
-use Rattle.reader.specs.declared.naming.Number.{Number}
+use Rattle.naming.specs.Naming as naming
+use Rattle.naming.specs.declared.Number.{Number}
 use Rattle.rules.specs.Events.{History}
 use Rattle.rules.specs.Model.{Rec}
 use Rattle.numbers.specs.Sizes.{places}
-use Rattle.table.specs.State.{State, at}
-use Rattle.table.specs.Sight.{sight, seenAt}
-use Rattle.table.specs.View.{view}
-use Rattle.table.specs.declared.sight.Sight.the-variants.{Nobody, At}
-use Rattle.table.proofs.ViewLaws.{view-long}
-use Rattle.table.proofs.SightLaws as table
-use Rattle.table.proofs.SightLaws.{seenIn, seen-record, sight-fit, at-lowest, lowest-at, nobody-none, none-nobody}
+use Rattle.place.specs.State.{State, at}
+use Rattle.questions.specs.Sight.{sight, seenAt}
+use Rattle.fitness.specs.View.{view}
+use Rattle.questions.specs.declared.Sight.the-variants.{Nobody, At}
+use Rattle.fitness.proofs.ViewLaws.{view-long}
+use Rattle.questions.proofs.LowestLaws as table
+use Rattle.questions.proofs.LowestLaws.{seenIn, seen-record, sight-fit, at-lowest, lowest-at, nobody-none, none-nobody}
 use Rattle.history.specs.Calls.{Called, Names, Lowest}
 use Rattle.history.proofs.CallsLaws.{always-fit, demand3-table}
 

@@ -6,15 +6,15 @@ use mathlib.Core.List.{List, [], _∷_}
 use mathlib.Core.Option.{none, some}
 use lib.ListN.{length, getD}
 use Rattle.lldpdu.specs.Extent.{extentOf}
-use Rattle.reader.specs.Naming.{seenAt}
-use Rattle.reader.specs.declared.naming.Number.{Number}
+use Rattle.naming.specs.Naming.{seenAt}
+use Rattle.naming.specs.declared.Number.{Number}
 use Rattle.rules.specs.Events as event
 use Rattle.rules.specs.Events.{History}
 use Rattle.rules.specs.Model.{Rec, Places}
 use Rattle.numbers.specs.Sizes.{ports}
-use Rattle.table.specs.State.{State, octets}
-use Rattle.table.specs.Calls.{stateAfter, started, passed, linkLost}
-use Rattle.table.specs.Frame.{heardOf, stateTold, heard}
+use Rattle.place.specs.State.{State, octets}
+use Rattle.freeing.specs.Calls.{stateAfter, started, passed, linkLost}
+use Rattle.hearing.specs.Frame.{heardOf, stateTold, heard}
 use Rattle.history.specs.Words.{Neighbour}
 
 -- calls lead to the state s, and the history is what they were told, newest first

@@ -1,13 +1,13 @@
 // judge: reads one frame from standard input and says what it announces, in four lines, or `refused ` and the number (P1).
-// The reader decides everything; this program only reads and prints.
+// The reader decides everything; this program only reads, fills in a form and writes the answer at once.
+use forms::put_form;
 use libc::STDIN_FILENO;
 use libc::STDOUT_FILENO;
-use lldpdu::Extent;
-use lldpdu::Part;
-use lldpdu::text_of;
-use octets::hex_of;
+use reader::Extent;
+use reader::Part;
 use reader::Reading;
 use reader::read_frame;
+use reader::text_of;
 
 // The parts of a reading count from the octet behind the header (F1).
 const LLDPDU: Part = Part {
@@ -15,60 +15,39 @@ const LLDPDU: Part = Part {
     len: 1500,
 };
 
-fn say(text: &[u8]) {
-    io::write_all(STDOUT_FILENO, text);
+// More than the longest answer, whose port ID has 255 octets (L4).
+const ROOM: usize = 1024;
+
+fn put_chassis(line: &mut [u8], chassis: [u8; 6]) -> usize {
+    put_form(line, 0, b"chassis ~\n", 1, &[0, 6], &chassis)
 }
 
-// An octet as two capital hex digits, behind a `-` where it is not the first (P2).
-fn say_octet(b: u8, is_first: bool) {
-    if !is_first {
-        say(b"-");
-    }
-    say(&hex_of(b));
-}
-
-fn say_octets(part: &[u8]) {
-    let mut i = 0;
-    while i < part.len() {
-        say_octet(part[i], i == 0);
-        i += 1;
-    }
-}
-
-fn say_address(a: [u8; 6]) {
-    say_octets(&a);
-}
-
-fn say_refusal(n: u8) {
-    say(b"refused ");
-    io::print_decimal(STDOUT_FILENO, n as u64);
-    say(b"\n");
-}
-
-fn say_reading(lldpdu: &[u8], r: Reading) {
+fn put_reading(line: &mut [u8], lldpdu: &[u8], r: Reading) -> usize {
     let d = r.description;
-    say(b"chassis ");
     let chassis = d.chassis;
-    say_address(chassis);
-    say(b"\nport ");
-    io::print_decimal(STDOUT_FILENO, d.subtype as u64);
-    say(b" ");
-    say_octets(text_of(lldpdu, d.port));
-    say(b"\nseconds ");
-    io::print_decimal(STDOUT_FILENO, d.seconds as u64);
-    if r.htip {
-        say(b"\nhtip yes\n");
-    } else {
-        say(b"\nhtip no\n");
-    }
+    let end = put_chassis(line, chassis);
+    let verdict = if r.htip { 1 } else { 2 };
+    put_form(
+        line,
+        end,
+        b"port # ~\nseconds #\nhtip yes\n|port # ~\nseconds #\nhtip no\n",
+        verdict,
+        &[
+            d.subtype as usize,
+            d.port.start,
+            d.port.len,
+            d.seconds as usize,
+        ],
+        lldpdu,
+    )
 }
 
-fn judge(frame: &[u8]) {
+fn put_answer(line: &mut [u8], frame: &[u8]) -> usize {
     let r = read_frame(frame);
     let extent = r.extent;
     match extent {
-        Extent::Refused(n) => say_refusal(n),
-        Extent::Octets(_) => say_reading(text_of(frame, LLDPDU), r),
+        Extent::Refused(n) => put_form(line, 0, b"refused #\n", 1, &[n as usize], frame),
+        Extent::Octets(_) => put_reading(line, text_of(frame, LLDPDU), r),
     }
 }
 
@@ -76,5 +55,7 @@ fn judge(frame: &[u8]) {
 fn main() {
     let mut frame = [0u8; 1515];
     let n = io::read_full(STDIN_FILENO, &mut frame);
-    judge(&frame[..n]);
+    let mut line = [0u8; ROOM];
+    let end = put_answer(&mut line, &frame[..n]);
+    io::write_all(STDOUT_FILENO, text_of(&line, Part { start: 0, len: end }));
 }

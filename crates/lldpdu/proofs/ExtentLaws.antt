@@ -12,13 +12,13 @@ use lib.Dec.{leb, eqb}
 use Rattle.tally.specs.Tests.{pick}
 use Rattle.tally.proofs.TestsLaws.{both-true, held}
 use Rattle.octets.specs.Header.{lengthIn}
-use Rattle.lldpdu.specs.Walk.{headOf, walk}
+use Rattle.walk.specs.Walk.{headOf, walk}
 use Rattle.lldpdu.specs.Extent.{chassisOk, portOk, secondsOk, need, portLength, restOf, behindPort, behindChassis, extentOf}
-use Rattle.lldpdu.proofs.WalkLaws.{whole}
-use Rattle.lldpdu.specs.declared.walk.Head.{Head}
-use Rattle.lldpdu.specs.declared.walk.Head.the-variants.{Short, Whole}
-use Rattle.lldpdu.specs.declared.extent.Extent.{Extent}
-use Rattle.lldpdu.specs.declared.extent.Extent.the-variants.{Refused, Octets}
+use Rattle.walk.proofs.WalkLaws.{whole}
+use Rattle.walk.specs.declared.Head.{Head}
+use Rattle.walk.specs.declared.Head.the-variants.{Short, Whole}
+use Rattle.walk.specs.declared.Extent.{Extent}
+use Rattle.walk.specs.declared.Extent.the-variants.{Refused, Octets}
 
 -- One of the first three
 

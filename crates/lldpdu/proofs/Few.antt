@@ -10,14 +10,14 @@ use lib.ListN.{take, drop, getD}
 use lib.Dec.{leb, ltb, eqb}
 use Rattle.tally.specs.Tests.{pick, both}
 use Rattle.octets.specs.Header.{lengthIn}
-use Rattle.lldpdu.specs.Walk.{headOf, stepOf, onStep, walk}
+use Rattle.walk.specs.Walk.{headOf, stepOf, onStep, walk}
 use Rattle.lldpdu.specs.Extent.{chassisOk, portOk, secondsOk, need, portLength, restOf, behindPort, behindChassis, extentOf}
-use Rattle.lldpdu.specs.declared.walk.Head.{Head}
-use Rattle.lldpdu.specs.declared.walk.Head.the-variants.{Short, Whole}
-use Rattle.lldpdu.specs.declared.walk.Step.{Step}
-use Rattle.lldpdu.specs.declared.walk.Step.the-variants as step
-use Rattle.lldpdu.specs.declared.extent.Extent.{Extent}
-use Rattle.lldpdu.specs.declared.extent.Extent.the-variants.{Refused, Octets}
+use Rattle.walk.specs.declared.Head.{Head}
+use Rattle.walk.specs.declared.Head.the-variants.{Short, Whole}
+use Rattle.walk.specs.declared.Step.{Step}
+use Rattle.walk.specs.declared.Step.the-variants as step
+use Rattle.walk.specs.declared.Extent.{Extent}
+use Rattle.walk.specs.declared.Extent.the-variants.{Refused, Octets}
 
 abbrev pub Few : Extent → Type 0
 Few (Refused n) = (4 ≤ n) × (n ≤ 6)

@@ -1,6 +1,5 @@
 -- The laws of this crate's definitions.
--- The walk first, then the extent, then what holds of every answer.
-pub mod WalkLaws
+-- The extent first, then what holds of every answer.
 pub mod ExtentLaws
 pub mod Stable
 pub mod Few

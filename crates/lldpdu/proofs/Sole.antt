@@ -6,8 +6,6 @@ use denote.Ref.{now}
 use denote.Triple.Clauses.{AtExit}
 use mathlib.Core.Path.{_≡_, sym, _∙_}
 use Rattle.tally.proofs.Sole.{Sole}
-use Rattle.lldpdu.proofs.walk.step_at.Kinds as step-at-kinds
-use Rattle.lldpdu.proofs.walk.step_at.Reads as step-at
 use Rattle.lldpdu.proofs.extent.port_length.Kinds as port-length-kinds
 use Rattle.lldpdu.proofs.extent.port_length.Reads as port-length
 use Rattle.lldpdu.proofs.extent.extent_of.Kinds as extent-of-kinds
@@ -23,9 +21,6 @@ use Rattle.lldpdu.proofs.outline.outline_lldpdu.Reads as outline-lldpdu
 pub text-of-sole : (κs : Lfts 1) (a : Dens κs text-of-kinds.ps) (r q : resT text-of-kinds.r κs .Denot) (x y : AtExit (endedOf 1 text-of-kinds.ps text-of-kinds.r) κs)
     → text-of.Post κs a r x → text-of.Post κs a q y → now r ≡ now q
 text-of-sole κs a r q x y e f = e ∙ sym f
-
-pub step-at-sole : Sole 1 step-at-kinds.ps step-at-kinds.r step-at.Post
-step-at-sole κs a r q x y e f = e ∙ sym f
 
 pub port-length-sole : Sole 1 port-length-kinds.ps port-length-kinds.r port-length.Post
 port-length-sole κs a r q x y e f = e ∙ sym f

@@ -14,15 +14,15 @@ use Rattle.octets.specs.Header.{kindIn, lengthIn}
 use Rattle.octets.specs.Numbers.{pairOf}
 use Rattle.octets.specs.Address.{sixAt}
 use Rattle.octets.proofs.PartLaws.{part-of-part}
-use Rattle.lldpdu.specs.Walk.{headOf, stepOf, Walked, onStep, walk}
+use Rattle.walk.specs.Walk.{headOf, stepOf, Walked, onStep, walk}
 use Rattle.lldpdu.specs.Extent.{portLength, restOf, extentOf}
 use Rattle.lldpdu.specs.Outline.{secondsIn, outlineOf}
-use Rattle.lldpdu.proofs.WalkLaws.{whole, is-whole, whole-fits}
+use Rattle.walk.proofs.WalkLaws.{whole, is-whole, whole-fits}
 use Rattle.lldpdu.proofs.ExtentLaws.{not-both, Good, good, reads}
-use Rattle.lldpdu.specs.declared.walk.Head.the-variants.{Short, Whole}
-use Rattle.lldpdu.specs.declared.walk.Step.{Step}
-use Rattle.lldpdu.specs.declared.walk.Step.the-variants as step
-use Rattle.lldpdu.specs.declared.extent.Extent.the-variants.{Refused, Octets}
+use Rattle.walk.specs.declared.Head.the-variants.{Short, Whole}
+use Rattle.walk.specs.declared.Step.{Step}
+use Rattle.walk.specs.declared.Step.the-variants as step
+use Rattle.walk.specs.declared.Extent.the-variants.{Refused, Octets}
 
 -- The walk
 

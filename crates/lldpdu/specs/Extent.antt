@@ -7,11 +7,11 @@ use lib.ListN.{drop, getD}
 use lib.Dec.{leb, eqb}
 use Rattle.tally.specs.Tests.{pick, both, all}
 use Rattle.octets.specs.Header.{lengthIn}
-use Rattle.lldpdu.specs.Walk.{headOf, Walked, walk}
-use Rattle.lldpdu.specs.declared.walk.Head.{Head}
-use Rattle.lldpdu.specs.declared.walk.Head.the-variants.{Short, Whole}
-use Rattle.lldpdu.specs.declared.extent.Extent.{Extent}
-use Rattle.lldpdu.specs.declared.extent.Extent.the-variants.{Refused, Octets}
+use Rattle.walk.specs.Walk.{headOf, Walked, walk}
+use Rattle.walk.specs.declared.Head.{Head}
+use Rattle.walk.specs.declared.Head.the-variants.{Short, Whole}
+use Rattle.walk.specs.declared.Extent.{Extent}
+use Rattle.walk.specs.declared.Extent.the-variants.{Refused, Octets}
 
 -- the refusal number of an extent, 0 where it is none; the number of octets, 0 where it is refused
 abbrev pub refusalIn : Extent → ℕ

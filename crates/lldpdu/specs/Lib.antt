@@ -1,5 +1,4 @@
--- The definitions of this crate, in the order in which they are read: one TLV, the whole LLDPDU, its outline.
+-- The definitions of this crate, in the order in which they are read: the whole LLDPDU, its outline.
 -- Nothing here looks at what a field behind the first three TLVs says.
-pub mod Walk
 pub mod Extent
 pub mod Outline

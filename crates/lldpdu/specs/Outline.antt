@@ -6,8 +6,8 @@ use lib.ListN.{take, drop, getD, replicate}
 use Rattle.octets.specs.Numbers.{pairOf}
 use Rattle.octets.specs.Address.{sixAt}
 use Rattle.lldpdu.specs.Extent.{portLength, extentOf}
-use Rattle.lldpdu.specs.declared.extent.Extent.{Extent}
-use Rattle.lldpdu.specs.declared.extent.Extent.the-variants.{Refused, Octets}
+use Rattle.walk.specs.declared.Extent.{Extent}
+use Rattle.walk.specs.declared.Extent.the-variants.{Refused, Octets}
 use Rattle.lldpdu.specs.declared.outline.Part.{Part}
 use Rattle.lldpdu.specs.declared.outline.Outline.{Outline}
 

@@ -3,21 +3,19 @@
 ghost use mathlib.Core.Path.{_≡_};
 ghost use Prim.Native.Nat.{_+_, _≤_};
 ghost use lib.ListN.{drop};
-ghost use Rattle.lldpdu.specs.Walk.{walk};
+ghost use Rattle.walk.specs.Walk.{walk};
 ghost use Rattle.lldpdu.specs.Extent.{chassisOk, portOk, secondsOk, portLength, extentOf, behindPort, behindChassis};
-use crate::walk::Head;
-use crate::walk::NOT_AS_DUE;
-use crate::walk::RUNS_PAST;
-use crate::walk::Step;
-use crate::walk::head_at;
-use crate::walk::step_at;
 use octets::len_of;
 use octets::octet;
+use walk::Extent;
+use walk::Head;
+use walk::RUNS_PAST;
+use walk::Step;
+use walk::head_at;
+use walk::step_at;
 
-pub enum Extent {
-    Refused(u8),
-    Octets(usize),
-}
+// Refusal: one of the first three TLVs is not as it should be (R4).
+const NOT_AS_DUE: u8 = 4;
 
 // TLV 1 (L3).
 fn chassis_fits(kind: u8, len: usize, subtype: u8) -> bool

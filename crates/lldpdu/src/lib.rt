@@ -1,10 +1,8 @@
-// The LLDPDU: one TLV at a place, the extent of the whole, and its outline.
+// The LLDPDU: the extent of the whole, and its outline.
 // Validity, identity and seconds are decided here; what the other fields say is the reader's.
 mod extent;
 mod outline;
-mod walk;
 
-pub use extent::Extent;
 pub use extent::extent_of;
 pub use extent::port_length;
 pub use outline::Outline;
@@ -12,5 +10,4 @@ pub use outline::Part;
 pub use outline::outline_lldpdu;
 pub use outline::refused_outline;
 pub use outline::text_of;
-pub use walk::Step;
-pub use walk::step_at;
+pub use walk::Extent;

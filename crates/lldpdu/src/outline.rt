@@ -2,12 +2,12 @@
 // A refusal carries its number and nothing else: all that stands beside it is 0.
 ghost use mathlib.Core.Path.{_≡_};
 ghost use Rattle.lldpdu.specs.Outline.{textOf, refusedOutline, outlineOf};
-use crate::extent::Extent;
 use crate::extent::extent_of;
 use crate::extent::port_length;
 use octets::octet;
 use octets::pair;
 use octets::six;
+use walk::Extent;
 
 // A part of the text that is lent beside it: of the LLDPDU for what was read.
 pub struct Part {

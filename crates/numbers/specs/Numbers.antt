@@ -5,7 +5,8 @@ use mathlib.Core.Bool.{Bool, not}
 use lib.ListN.{getD}
 use lib.Dec.{leb, eqb}
 use Rattle.tally.specs.Tests.{both}
-use Rattle.tally.specs.Counts.{count, allBelow, firstFrom}
+use Rattle.tally.specs.Ranges.{allBelow}
+use Rattle.tally.specs.Counts.{count, firstFrom}
 use Rattle.rules.specs.Shares.{most, beyond}
 use Rattle.numbers.specs.Sizes.{ports, places, common}
 use Rattle.numbers.specs.declared.Table.{Table}

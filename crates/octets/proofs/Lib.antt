@@ -4,5 +4,4 @@ pub mod HeaderLaws
 pub mod NumbersLaws
 pub mod AddressLaws
 pub mod PartLaws
-pub mod WholeLaws
 pub mod Sole

@@ -1,10 +1,6 @@
--- For each public function on octets: two answers that its contract allows are one, or two outputs where it writes and answers nothing.
+-- For each public function on octets: two answers that its contract allows are one.
 -- The contracts are the toolchain's own reading of the source (`Post` of each function's `Reads`).
-use borrow.Fn.Kinds.{Dens, resT, endedOf}
-use contract.Lifetimes.{Lfts}
-use denote.Ref.{now}
-use denote.Triple.Clauses.{AtExit}
-use mathlib.Core.Path.{_≡_, sym, _∙_}
+use mathlib.Core.Path.{sym, _∙_}
 use Rattle.tally.proofs.Sole.{Sole}
 use Rattle.octets.proofs.kind_of.Kinds as kind-of-kinds
 use Rattle.octets.proofs.kind_of.Reads as kind-of
@@ -24,16 +20,6 @@ use Rattle.octets.proofs.six.Kinds as six-kinds
 use Rattle.octets.proofs.six.Reads as six
 use Rattle.octets.proofs.same_six.Kinds as same-six-kinds
 use Rattle.octets.proofs.same_six.Reads as same-six
-use Rattle.octets.proofs.hex_of.Kinds as hex-of-kinds
-use Rattle.octets.proofs.hex_of.Reads as hex-of
-use Rattle.octets.proofs.all_zero.Kinds as all-zero-kinds
-use Rattle.octets.proofs.all_zero.Reads as all-zero
-use Rattle.octets.proofs.same.Kinds as same-kinds
-use Rattle.octets.proofs.same.Reads as same
-use Rattle.octets.proofs.clear.Kinds as clear-kinds
-use Rattle.octets.proofs.clear.Reads as clear
-use Rattle.octets.proofs.fill.Kinds as fill-kinds
-use Rattle.octets.proofs.fill.Reads as fill
 
 pub kind-of-sole : Sole 0 kind-of-kinds.ps kind-of-kinds.r kind-of.Post
 kind-of-sole κs a r q x y e f = e ∙ sym f
@@ -61,21 +47,3 @@ six-sole κs a r q x y e f = e ∙ sym f
 
 pub same-six-sole : Sole 0 same-six-kinds.ps same-six-kinds.r same-six.Post
 same-six-sole κs a r q x y e f = e ∙ sym f
-
-pub hex-of-sole : Sole 0 hex-of-kinds.ps hex-of-kinds.r hex-of.Post
-hex-of-sole κs a r q x y e f = e ∙ sym f
-
-pub all-zero-sole : Sole 1 all-zero-kinds.ps all-zero-kinds.r all-zero.Post
-all-zero-sole κs a r q x y e f = e ∙ sym f
-
-pub same-sole : Sole 2 same-kinds.ps same-kinds.r same.Post
-same-sole κs a r q x y e f = e ∙ sym f
-
--- the output at exit is the first parameter
-pub clear-output-sole : (κs : Lfts 1) (a : Dens κs clear-kinds.ps) (r q : resT clear-kinds.r κs .Denot) (x y : AtExit (endedOf 1 clear-kinds.ps clear-kinds.r) κs)
-    → clear.Post κs a r x → clear.Post κs a q y → now (x .0) ≡ now (y .0)
-clear-output-sole κs a r q x y e f = e ∙ sym f
-
-pub fill-output-sole : (κs : Lfts 2) (a : Dens κs fill-kinds.ps) (r q : resT fill-kinds.r κs .Denot) (x y : AtExit (endedOf 2 fill-kinds.ps fill-kinds.r) κs)
-    → fill.Post κs a r x → fill.Post κs a q y → now (x .0) ≡ now (y .0)
-fill-output-sole κs a r q x y e f = e ∙ sym f

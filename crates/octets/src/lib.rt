@@ -1,13 +1,10 @@
-// Octets: total reads, numbers and addresses made of them, the two octets of a TLV header, and whole slices.
+// Octets: total reads, numbers and addresses made of them, and the two octets of a TLV header.
 // Every function takes any input; a read past the end of a slice gives 0, so no caller owes an index.
 ghost use mathlib.Core.Path.{_≡_};
-ghost use Prim.Native.Nat.{_<_, min};
-ghost use lib.ListN.{getD, take, length, replicate};
+ghost use lib.ListN.{getD, take};
 ghost use Rattle.octets.specs.Header.{kindIn, lengthIn, high, low};
 ghost use Rattle.octets.specs.Numbers.{pairOf, valueOf};
 ghost use Rattle.octets.specs.Address.{sixAt, sameOctets};
-ghost use Rattle.octets.specs.Hex.{digitOf, hexOf};
-ghost use Rattle.octets.specs.Whole.{zeros, filled};
 
 // The seven bits of type (L1).
 pub fn kind_of(hi: u8) -> u8
@@ -94,71 +91,4 @@ pub fn same_six(a: [u8; 6], b: [u8; 6]) -> bool
         }
     }
     true
-}
-
-// An octet as two capital hex digits (P2).
-pub fn hex_of(b: u8) -> [u8; 2]
-    ensures { λ r. ⌜ r ≡ hexOf b ⌝ }
-{
-    [digit_of(b / 16), digit_of(b % 16)]
-}
-
-fn digit_of(n: u8) -> u8
-    requires { ⌜ n < 16 ⌝ }
-    ensures { λ r. ⌜ r ≡ digitOf n ⌝ }
-{
-    if n < 10 { 48 + n } else { 55 + n }
-}
-
-// Whether all octets are 0, as those of a free place are and those behind a record (N5).
-// No early exit: the octets joined by OR over the whole are read many at a time.
-pub fn all_zero(s: &[u8]) -> bool
-    ensures { λ r. ⌜ r ≡ zeros (now (s .entry)) ⌝ }
-{
-    let mut seen: u8 = 0;
-    for i in 0..s.len() {
-        seen |= s[i];
-    }
-    seen == 0
-}
-
-// Whether two strings of octets are the same, as those of one identity are (N2).
-// No early exit, for the same reason.
-pub fn same(a: &[u8], b: &[u8]) -> bool
-    ensures { λ r. ⌜ r ≡ sameOctets (now (a .entry)) (now (b .entry)) ⌝ }
-{
-    if a.len() != b.len() {
-        return false;
-    }
-    let mut differ: u8 = 0;
-    for i in 0..a.len() {
-        differ |= a[i] ^ b[i];
-    }
-    differ == 0
-}
-
-// All octets become 0, as those of a freed place do (N4).
-pub fn clear(s: &mut [u8])
-    ensures { λ _. ⌜ now (s .exit) ≡ replicate (length (now (s .entry))) 0 ⌝ }
-{
-    for i in 0..s.len() {
-        s[i] = 0;
-    }
-}
-
-// The octets s, as far as they fit, then zeros, as a place keeps an LLDPDU (N3).
-pub fn fill(d: &mut [u8], s: &[u8])
-    ensures { λ _. ⌜ now (d .exit) ≡ filled (now (s .entry)) (length (now (d .entry))) ⌝ }
-{
-    let n = fewer(d.len(), s.len());
-    for i in 0..n {
-        d[i] = s[i];
-    }
-    clear(&mut d[n..]);
-}
-
-fn fewer(a: usize, b: usize) -> usize
-    ensures { λ r. ⌜ r ≡ min a b ⌝ }
-{
-    if a < b { a } else { b }
 }

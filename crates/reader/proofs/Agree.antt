@@ -1,7 +1,7 @@
--- The answers agree with each other: the outline with the reading, and a frame with its LLDPDU (A5).
--- They hold for every LLDPDU, valid or not, and for every header that fits.
+-- The answer on a frame is the answer on its LLDPDU (A5).
+-- It holds for every LLDPDU, valid or not, and for every header that fits.
 use Prim.Native.Nat.{ℕ, _+_, _≤_}
-use mathlib.Core.Path.{_≡_, refl, ap, _∙_}
+use mathlib.Core.Path.{_≡_, ap, _∙_}
 use mathlib.Core.List.{List, [], _∷_, _++_}
 use mathlib.Core.Bool.{true}
 use native.Mathlib.Omega.{arith}
@@ -11,34 +11,8 @@ use lib.Seq.{drop-at}
 use lib.Dec.{leb, eqb}
 use Rattle.tally.proofs.TestsLaws.{held}
 use Rattle.octets.specs.Address.{sixAt}
-use Rattle.lldpdu.specs.Extent.{extentOf}
-use Rattle.lldpdu.specs.Outline.{outlineAt, outlineOf}
-use Rattle.reader.specs.Reading.{readingAt, readingOf}
 use Rattle.reader.specs.Frame.{destinationOk, frameOk, onFrame}
 use Rattle.reader.proofs.FrameLaws.{on-good}
-use Rattle.lldpdu.specs.declared.extent.Extent.{Extent}
-use Rattle.lldpdu.specs.declared.extent.Extent.the-variants.{Refused, Octets}
-use Rattle.lldpdu.specs.declared.outline.Outline.{Outline}
-use Rattle.reader.specs.declared.reading.Reading.{Reading}
-
--- what an outline says of a reading
-abbrev pub trimmed : Reading → Outline
-trimmed r =
-    record {
-      extent = r .extent;
-      chassis = r .description .chassis;
-      subtype = r .description .subtype;
-      port = r .description .port;
-      seconds = r .description .seconds;
-    }
-
-pub outline-agrees : (s : List ℕ) → trimmed (readingOf s) ≡ outlineOf s
-unfolding readingOf outlineOf
-outline-agrees s = go (extentOf s)
-  where
-    go : (x : Extent) → trimmed (readingAt x s) ≡ outlineAt x s
-    go (Refused n) = refl
-    go (Octets e) = refl
 
 -- a header of fourteen octets that fits, with an LLDPDU of at most 1,500 behind it
 module _ (h s : List ℕ) (l : length h ≡ 14) (o : frameOk h ≡ true) (m : length s ≤ 1500) where

@@ -9,11 +9,12 @@ use lib.ListN.{take, drop}
 use Rattle.octets.specs.Address.{sixAt, sameOctets}
 use Rattle.fields.specs.Text.{charOk, textOk}
 use Rattle.fields.specs.Device.{wantedOf, deviceOf}
-use Rattle.fields.specs.Link.{linkOk, listOk}
+use Rattle.links.specs.Link.{linkOk, listOk}
 use Rattle.fields.specs.Field.{descriptionOf, linkOf, listOf, isTtc, ttcOf, fieldOf}
-use Rattle.lldpdu.specs.Walk.{headOf, stepOf, walk}
+use Rattle.walk.specs.Walk.{headOf, stepOf, walk}
 use Rattle.lldpdu.specs.Extent.{behindPort, behindChassis, extentOf}
-use Rattle.reader.specs.Meaning.{contents, wellFormed, htipOf, Answer, refused, answerOf}
+use Rattle.found.specs.Contents.{contents, wellFormed, htipOf}
+use Rattle.reading.specs.Meaning.{Answer, refused, answerOf}
 use Rattle.reader.specs.Frame.{frameOk, onFrame}
 
 -- frame A in pieces

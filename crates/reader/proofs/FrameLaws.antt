@@ -10,11 +10,11 @@ use lib.Dec.{leb, eqb}
 use Rattle.tally.specs.Tests.{pick}
 use Rattle.tally.proofs.TestsLaws.{held}
 use Rattle.octets.specs.Address.{sixAt}
-use Rattle.reader.specs.Reading.{refusedReading, readingOf}
-use Rattle.reader.specs.Meaning.{refused, answerOf, meant}
+use Rattle.reading.specs.Reading.{refusedReading, readingOf}
+use Rattle.reading.specs.Meaning.{refused, answerOf, meant}
 use Rattle.reader.specs.Frame.{destinationOk, frameOk, onFrame, ReadsFrame}
-use Rattle.reader.proofs.MeaningLaws.{reading-means}
-use Rattle.reader.specs.declared.reading.Reading.{Reading}
+use Rattle.reading.proofs.MeaningLaws.{reading-means}
+use Rattle.reading.specs.declared.Reading.{Reading}
 
 pub frame-size : (f : List ℕ) → frameOk f ≡ true → (14 ≤ length f) × (length f ≤ 1514)
 unfolding frameOk

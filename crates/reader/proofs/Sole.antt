@@ -2,23 +2,13 @@
 -- The contracts are the toolchain's own reading of the source (`Post` of each function's `Reads`), so nothing is said twice.
 use mathlib.Core.Path.{sym, _∙_}
 use Rattle.tally.proofs.Sole.{Sole}
-use Rattle.reader.proofs.reading.read_lldpdu.Kinds as read-lldpdu-kinds
-use Rattle.reader.proofs.reading.read_lldpdu.Reads as read-lldpdu
 use Rattle.reader.proofs.frame.outline_frame.Kinds as outline-frame-kinds
 use Rattle.reader.proofs.frame.outline_frame.Reads as outline-frame
 use Rattle.reader.proofs.frame.read_frame.Kinds as read-frame-kinds
 use Rattle.reader.proofs.frame.read_frame.Reads as read-frame
-use Rattle.reader.proofs.naming.link_naming.Kinds as link-naming-kinds
-use Rattle.reader.proofs.naming.link_naming.Reads as link-naming
-
-pub read-lldpdu-sole : Sole 1 read-lldpdu-kinds.ps read-lldpdu-kinds.r read-lldpdu.Post
-read-lldpdu-sole κs a r q x y e f = e .exact ∙ sym (f .exact)
 
 pub outline-frame-sole : Sole 1 outline-frame-kinds.ps outline-frame-kinds.r outline-frame.Post
 outline-frame-sole κs a r q x y e f = e ∙ sym f
 
 pub read-frame-sole : Sole 1 read-frame-kinds.ps read-frame-kinds.r read-frame.Post
 read-frame-sole κs a r q x y e f = e .exact ∙ sym (f .exact)
-
-pub link-naming-sole : Sole 1 link-naming-kinds.ps link-naming-kinds.r link-naming.Post
-link-naming-sole κs a r q x y e f = e .exact ∙ sym (f .exact)

@@ -8,9 +8,9 @@ use lib.ListN.{length, drop, getD}
 use lib.Dec.{leb, eqb}
 use Rattle.tally.specs.Tests.{pick, either, all}
 use Rattle.octets.specs.Address.{sixAt, sameOctets}
-use Rattle.reader.specs.Reading.{refusedReading, readingOf}
-use Rattle.reader.specs.Meaning.{refused, answerOf, meant}
-use Rattle.reader.specs.declared.reading.Reading.{Reading}
+use Rattle.reading.specs.Reading.{refusedReading, readingOf}
+use Rattle.reading.specs.Meaning.{refused, answerOf, meant}
+use Rattle.reading.specs.declared.Reading.{Reading}
 
 -- FF-FF-FF-FF-FF-FF and 01-80-C2-00-00-0E (F2)
 abbrev pub everyone : List ℕ

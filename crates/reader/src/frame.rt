@@ -3,15 +3,15 @@
 ghost use mathlib.Core.Path.{_≡_};
 ghost use Rattle.reader.specs.Frame.{frameOk, onFrame, ReadsFrame};
 ghost use Rattle.lldpdu.specs.Outline.{refusedOutline, outlineOf};
-use crate::reading::Reading;
-use crate::reading::read_lldpdu;
-use crate::reading::refused_reading;
 use lldpdu::Outline;
 use lldpdu::outline_lldpdu;
 use lldpdu::refused_outline;
 use octets::octet;
 use octets::same_six;
 use octets::six;
+use reading::Reading;
+use reading::read_lldpdu;
+use reading::refused_reading;
 
 // The fewest and the most octets of a frame (F1), and the refusal of one that does not fit (R3).
 const SHORTEST: usize = 14;

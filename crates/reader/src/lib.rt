@@ -1,12 +1,14 @@
 // The reader: what an LLDP frame, or a bare LLDPDU, says.
 // Octets come in, meaning comes out; no input, however long or short, is left without its one answer.
-mod found;
 mod frame;
-mod naming;
-mod reading;
 
 pub use frame::outline_frame;
 pub use frame::read_frame;
+pub use lldpdu::Extent;
+pub use lldpdu::Outline;
+pub use lldpdu::Part;
+pub use lldpdu::outline_lldpdu;
+pub use lldpdu::text_of;
 pub use naming::Naming;
 pub use naming::Number;
 pub use naming::link_naming;

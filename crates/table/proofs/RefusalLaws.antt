@@ -15,12 +15,12 @@ use Rattle.rules.specs.declared.Room.the-variants.{Enough, Full, Taken}
 use Rattle.rules.specs.declared.Reply.{Reply}
 use Rattle.rules.specs.declared.Reply.the-variants as reply
 use Rattle.numbers.specs.Sizes.{ports, places}
-use Rattle.table.specs.State.{State, octets, put, each, free, keep, find, number, empty}
-use Rattle.table.specs.Fit.{fit}
-use Rattle.table.specs.Changes.{aged, lost}
-use Rattle.table.specs.Calls.{After, answered, stateAfter, started, ifPort, passed, linkLost}
-use Rattle.table.specs.Frame.{heardOf, Told, telling, stateTold, heardAt, onRoom, heardNew, heardSaying, onHeard, heard}
-use Rattle.table.specs.declared.starting.Answer.the-variants.{Done, Refused}
+use Rattle.place.specs.State.{State, octets, put, each, free, keep, find, number, empty}
+use Rattle.fitness.specs.Fit.{fit}
+use Rattle.freeing.specs.Changes.{aged, lost}
+use Rattle.freeing.specs.Calls.{After, answered, stateAfter, started, ifPort, passed, linkLost}
+use Rattle.hearing.specs.Frame.{heardOf, Told, telling, stateTold, heardAt, onRoom, heardNew, heardSaying, onHeard, heard}
+use Rattle.freeing.specs.declared.Answer.the-variants.{Done, Refused}
 
 module _ (s : State) where
   -- The calls that answer with nothing but a refusal

@@ -20,18 +20,20 @@ use Rattle.rules.proofs.FrameLaws as model-laws
 use Rattle.rules.proofs.FrameLaws.{unplug-none, step-fit}
 use Rattle.rules.proofs.TabLaws.{tab-same}
 use Rattle.numbers.specs.Sizes.{ports, places}
-use Rattle.table.specs.State.{State, Sized, size, octets, at, each, free, empty}
-use Rattle.table.specs.Fit.{okPlace, fit, Fit}
-use Rattle.table.specs.Changes.{aged, lost}
-use Rattle.table.specs.Calls.{answered, stateAfter, started, passed, linkLost}
-use Rattle.table.specs.Frame.{heardOf, stateTold, heard}
-use Rattle.table.specs.View.{placeOf, view}
-use Rattle.table.specs.declared.starting.Answer.the-variants.{Done, Refused}
-use Rattle.table.proofs.ViewLaws.{place-free, placed, view-fits, fit-view}
-use Rattle.table.proofs.FitLaws.{fit-parts, parts-fit}
-use Rattle.table.proofs.KeepLaws.{free-ok, aged-ok, aged-long, lost-ok, lost-long}
-use Rattle.table.proofs.SeenLaws.{Good, aged-place, lost-place, each-sized, each-good, each-view}
-use Rattle.table.proofs.HeardLaws.{frame-right}
+use Rattle.place.specs.State.{State, Sized, size, octets, at, each, free, empty}
+use Rattle.marks.specs.PlaceFit.{okPlace}
+use Rattle.fitness.specs.Fit.{fit, Fit}
+use Rattle.freeing.specs.Changes.{aged, lost}
+use Rattle.freeing.specs.Calls.{answered, stateAfter, started, passed, linkLost}
+use Rattle.hearing.specs.Frame.{heardOf, stateTold, heard}
+use Rattle.fitness.specs.View.{placeOf, view}
+use Rattle.freeing.specs.declared.Answer.the-variants.{Done, Refused}
+use Rattle.fitness.proofs.ViewLaws.{place-free, placed, view-fits, fit-view}
+use Rattle.fitness.proofs.FitLaws.{fit-parts, parts-fit}
+use Rattle.fitness.proofs.KeepLaws.{free-ok}
+use Rattle.table.proofs.PassingLaws.{aged-ok, aged-long, lost-ok, lost-long, aged-place, lost-place}
+use Rattle.fitness.proofs.WrittenLaws.{Good, each-sized, each-good, each-view}
+use Rattle.table.proofs.ModelLaws.{frame-right}
 
 -- what every call keeps
 pub record Kept (s : State) : Type 0 where

@@ -4,14 +4,13 @@ use Prim.Native.Nat.{ℕ, zero, suc, _+_, _-_, _≤_, _<_}
 use mathlib.Core.Path.{_≡_, refl, sym, ap, _∙_}
 use mathlib.Core.Bool.{Bool, true, false}
 use mathlib.Core.Logic.{⊎-elim}
-use native.Mathlib.Nat.{eq-or-lt-of-le, le-of-suc-le-suc, not-suc-le-zero}
+use native.Mathlib.Nat.{eq-or-lt-of-le}
 use native.Mathlib.Numerals.{add-one}
 use native.Mathlib.Omega.{arith}
 use borrow.Author.Tests.{eqb-true, eqb-false, ne-eqb}
 use lib.Dec.{eqb}
 use Rattle.tally.specs.Tests.{pick}
-use Rattle.tally.specs.Counts.{one, count, sum, allBelow, firstFrom}
-use Rattle.tally.proofs.TestsLaws.{both-false}
+use Rattle.tally.specs.Counts.{one, count, sum, firstFrom}
 
 -- How many pass
 
@@ -79,35 +78,6 @@ sum-one p (suc n) l = go (eqb p n) refl (sum-one p n)
     go : (b : Bool) → eqb p n ≡ b → (p < n → sum (λ k. one (eqb p k)) n ≡ 1) → sum (λ k. one (eqb p k)) n + one b ≡ 1
     go true e ih = omega (arith, before (omega (arith, eqb-true p n e)))
     go false e ih = omega (arith, ih (omega (arith, eqb-false p n e)))
-
--- Whether all pass
-
-module _ (f : ℕ → Bool) where
-  pub all-none : allBelow f 0 ≡ true
-  unfolding allBelow
-  all-none = refl
-
-  pub all-more : (i : ℕ) → allBelow f i ≡ true → f i ≡ true → allBelow f (i + 1) ≡ true
-  unfolding allBelow
-  all-more i a e = rw (add-one, a, e)
-
-  pub all-stop : (i n : ℕ) → i < n → f i ≡ false → allBelow f n ≡ false
-  unfolding allBelow
-  all-stop i zero l e = absurd (not-suc-le-zero l)
-  all-stop i (suc n) l e =
-      ⊎-elim (λ (h : i ≡ n). rw (← h, e, both-false)) (λ h. rw (all-stop i n h e)) (eq-or-lt-of-le (le-of-suc-le-suc l))
-
-  pub all-true : (n : ℕ) → allBelow f n ≡ true → (k : ℕ) → k < n → f k ≡ true
-  all-true n a k l = go (f k) refl
-    where
-      go : (b : Bool) → f k ≡ b → f k ≡ true
-      go true e = e
-      go false e = let x = all-stop k n l e in cc
-
-  pub all-each : (n : ℕ) → ((k : ℕ) → k < n → f k ≡ true) → allBelow f n ≡ true
-  unfolding allBelow
-  all-each zero h = refl
-  all-each (suc n) h = rw (all-each n (λ k l. h k (omega arith)), h n (omega arith))
 
 -- Which is the first that passes
 

@@ -3,22 +3,50 @@
 use Prim.Native.Nat.{ℕ, zero, suc, _+_, _-_, _<_, _≤_}
 use mathlib.Core.Path.{_≡_, refl, sym, ap, _∙_}
 use mathlib.Core.Bool.{Bool, true, false}
+use mathlib.Core.Logic.{⊎-elim}
+use native.Mathlib.Nat.{eq-or-lt-of-le, le-of-suc-le-suc, not-suc-le-zero}
 use native.Mathlib.Omega.{arith}
 use native.Mathlib.Numerals.{add-one}
 use borrow.Author.Tests.{eqb-true, eqb-false}
 use lib.Dec.{eqb}
 use Rattle.tally.specs.Tests.{either}
-use Rattle.tally.specs.Ranges.{every, some}
-use Rattle.tally.proofs.TestsLaws.{both-true, either-right}
+use Rattle.tally.specs.Ranges.{allBelow, some}
+use Rattle.tally.proofs.TestsLaws.{both-false, either-right}
 
-every-at : (p : ℕ → Bool) (lo n : ℕ) → every p lo n ≡ true → (d : ℕ) → d < n → p (lo + d) ≡ true
-unfolding every
-every-at p lo zero e d h = absurd (omega arith)
-every-at p lo (suc n) e zero h = ap p (omega arith) ∙ both-true (p lo) (every p (lo + 1) n) e .0
-every-at p lo (suc n) e (suc d) h = ap p (omega arith) ∙ every-at p (lo + 1) n (both-true (p lo) (every p (lo + 1) n) e .1) d (omega arith)
+-- Every one
 
-pub in-range : (p : ℕ → Bool) (lo n b : ℕ) → every p lo n ≡ true → lo ≤ b → b < lo + n → p b ≡ true
-in-range p lo n b e h k = ap p (omega arith) ∙ every-at p lo n e (b - lo) (omega arith)
+module _ (f : ℕ → Bool) where
+  pub all-none : allBelow f 0 ≡ true
+  unfolding allBelow
+  all-none = refl
+
+  pub all-more : (i : ℕ) → allBelow f i ≡ true → f i ≡ true → allBelow f (i + 1) ≡ true
+  unfolding allBelow
+  all-more i a e = rw (add-one, a, e)
+
+  pub all-stop : (i n : ℕ) → i < n → f i ≡ false → allBelow f n ≡ false
+  unfolding allBelow
+  all-stop i zero l e = absurd (not-suc-le-zero l)
+  all-stop i (suc n) l e =
+      ⊎-elim (λ (h : i ≡ n). rw (← h, e, both-false)) (λ h. rw (all-stop i n h e)) (eq-or-lt-of-le (le-of-suc-le-suc l))
+
+  pub all-true : (n : ℕ) → allBelow f n ≡ true → (k : ℕ) → k < n → f k ≡ true
+  all-true n a k l = go (f k) refl
+    where
+      go : (b : Bool) → f k ≡ b → f k ≡ true
+      go true e = e
+      go false e = let x = all-stop k n l e in cc
+
+  pub all-each : (n : ℕ) → ((k : ℕ) → k < n → f k ≡ true) → allBelow f n ≡ true
+  unfolding allBelow
+  all-each zero h = refl
+  all-each (suc n) h = rw (all-each n (λ k l. h k (omega arith)), h n (omega arith))
+
+-- from one computed test of the n numbers from lo on to the rule at each of them
+pub in-range : (p : ℕ → Bool) (lo n b : ℕ) → allBelow (λ d. p (lo + d)) n ≡ true → lo ≤ b → b < lo + n → p b ≡ true
+in-range p lo n b e h k = ap p (omega arith) ∙ all-true (λ d. p (lo + d)) n e (b - lo) (omega arith)
+
+-- Some one
 
 -- the loop that looks for a number below n: nothing is found below 0, a miss goes on, a hit decides
 module _ (p : ℕ → Bool) where

@@ -1,8 +1,8 @@
 -- Counting, summing and searching over the numbers below a number.
 -- The recursion is on the count, as a loop that counts goes.
 use Prim.Native.Nat.{ℕ, zero, suc, _+_}
-use mathlib.Core.Bool.{Bool, true}
-use Rattle.tally.specs.Tests.{pick, both}
+use mathlib.Core.Bool.{Bool}
+use Rattle.tally.specs.Tests.{pick}
 
 abbrev pub one : Bool → ℕ
 one b = pick b 1 0
@@ -16,11 +16,6 @@ count f (suc n) = count f n + one (f n)
 unfoldable pub sum : (ℕ → ℕ) → ℕ → ℕ
 sum h zero = 0
 sum h (suc n) = sum h n + h n
-
--- every number below n passes
-unfoldable pub allBelow : (ℕ → Bool) → ℕ → Bool
-allBelow f zero = true
-allBelow f (suc n) = both (allBelow f n) (f n)
 
 -- the first of the m numbers from k on that passes, or else k + m
 unfoldable pub firstFrom : (ℕ → Bool) → ℕ → ℕ → ℕ

@@ -1,13 +1,13 @@
--- A test asked of each number of a range: of every one, or of some one below a number.
+-- A test asked of each number below a number: of every one, or of some one.
 -- The recursion is on the count, as a loop that counts goes.
-use Prim.Native.Nat.{ℕ, zero, suc, _+_}
+use Prim.Native.Nat.{ℕ, zero, suc}
 use mathlib.Core.Bool.{Bool, true, false}
 use Rattle.tally.specs.Tests.{both, either}
 
--- the n numbers from lo on all pass
-unfoldable pub every : (ℕ → Bool) → ℕ → ℕ → Bool
-every p lo zero = true
-every p lo (suc n) = both (p lo) (every p (lo + 1) n)
+-- every number below n passes
+unfoldable pub allBelow : (ℕ → Bool) → ℕ → Bool
+allBelow f zero = true
+allBelow f (suc n) = both (allBelow f n) (f n)
 
 -- some number below n passes
 unfoldable pub some : (ℕ → Bool) → ℕ → Bool

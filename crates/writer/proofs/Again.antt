@@ -15,21 +15,22 @@ use Rattle.lldpdu.specs.Extent.{portLength, extentOf}
 use Rattle.lldpdu.specs.Outline.{part}
 use Rattle.lldpdu.proofs.ExtentLaws.{good, good-port, reads}
 use Rattle.lldpdu.proofs.Stable.{sized}
-use Rattle.lldpdu.specs.declared.extent.Extent.the-variants as extent-is
+use Rattle.walk.specs.declared.Extent.the-variants as extent-is
 use Rattle.lldpdu.specs.declared.outline.Part.{Part}
-use Rattle.reader.specs.Found.{markOf}
-use Rattle.reader.specs.Reading.{partAt, linkAt, listAt, foundIn, readingOf}
+use Rattle.found.specs.Found.{markOf}
+use Rattle.reading.specs.Reading.{partAt, linkAt, listAt, foundIn, readingOf}
 use Rattle.reader.specs.Frame.{frameOk, onFrame, ReadsFrame}
-use Rattle.reader.specs.Meaning.{refused, Answer, answerOf, saidBy, meant, Reads}
-use Rattle.reader.proofs.MeaningLaws.{LinkFits, reading-link-fits, marks-inside}
-use Rattle.reader.specs.declared.found.Mark.{Mark}
-use Rattle.reader.specs.declared.reading.Link.{Link}
-use Rattle.reader.specs.declared.reading.Link.the-variants as link-is
-use Rattle.reader.specs.declared.reading.AddressList.the-variants as list-is
-use Rattle.reader.specs.declared.reading.Description.{Description}
-use Rattle.reader.specs.declared.reading.Reading.{Reading}
-use Rattle.writer.specs.Encode.{encode}
-use Rattle.writer.specs.Rules.{soundOf, partInside, linkInside, listInside, allInside}
+use Rattle.reading.specs.Meaning.{refused, Answer, answerOf, saidBy, meant, Reads}
+use Rattle.reading.proofs.MeaningLaws.{LinkFits, reading-link-fits, marks-inside}
+use Rattle.found.specs.declared.Mark.{Mark}
+use Rattle.reading.specs.declared.Link.{Link}
+use Rattle.reading.specs.declared.Link.the-variants as link-is
+use Rattle.reading.specs.declared.AddressList.the-variants as list-is
+use Rattle.reading.specs.declared.Description.{Description}
+use Rattle.reading.specs.declared.Reading.{Reading}
+use Rattle.announcement.specs.Encode.{encode}
+use Rattle.parts.specs.Inside.{partInside, linkInside, listInside, allInside}
+use Rattle.description.specs.Rules.{soundOf}
 use Rattle.writer.specs.Write.{keeps, writeOf, octetsWritten, over, Writes}
 use Rattle.writer.proofs.RoundTrip.{answered, read-back, read-frame-back, good-written}
 use Rattle.writer.specs.declared.Written.{Written}

@@ -7,9 +7,11 @@ use mathlib.Core.Bool.{true, false}
 use mathlib.Core.Option.{Option, none, some}
 use lib.ListN.{replicate}
 use Rattle.fields.specs.Text.{textOk}
-use Rattle.reader.specs.Meaning.{LinkInfo, Said}
-use Rattle.writer.specs.Encode.{octetsOf, linkInfo, fieldTlvs, tlvsOf, encode}
-use Rattle.writer.specs.Rules.{linkSound, listSound, soundOf}
+use Rattle.found.specs.Contents.{LinkInfo}
+use Rattle.reading.specs.Meaning.{Said}
+use Rattle.tlvs.specs.Tlvs.{octetsOf, linkInfo}
+use Rattle.announcement.specs.Encode.{fieldTlvs, tlvsOf, encode}
+use Rattle.description.specs.Rules.{linkSound, listSound, soundOf}
 
 -- what frame A says
 abbrev said-a : Said

@@ -1,8 +1,5 @@
 -- The laws of this crate's definitions.
 -- RoundTrip, Again and Sole are the theorems; the others serve the proofs of the functions and these three.
-pub mod PutLaws
-pub mod EncodeLaws
-pub mod RulesLaws
 pub mod WriteLaws
 pub mod ReadBack
 pub mod Topics

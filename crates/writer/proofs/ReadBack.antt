@@ -8,12 +8,12 @@ use borrow.Author.Tests.{le-leb}
 use lib.ListN.{length, length-append}
 use lib.Seq.{drop-at, take-at}
 use Rattle.octets.proofs.HeaderLaws.{kind-high, length-join}
-use Rattle.lldpdu.specs.Walk.{Tlv, Placed, headOf, stepOf, onStep, walk}
-use Rattle.lldpdu.proofs.WalkLaws.{walk-step}
-use Rattle.lldpdu.specs.declared.walk.Head.the-variants.{Whole}
-use Rattle.lldpdu.specs.declared.walk.Step.the-variants.{Next}
-use Rattle.lldpdu.specs.declared.extent.Extent.the-variants.{Octets}
-use Rattle.writer.specs.Encode.{written, octetsOf, endTlv}
+use Rattle.walk.specs.Walk.{Tlv, Placed, headOf, stepOf, onStep, walk}
+use Rattle.walk.proofs.WalkLaws.{walk-step}
+use Rattle.walk.specs.declared.Head.the-variants.{Whole}
+use Rattle.walk.specs.declared.Step.the-variants.{Next}
+use Rattle.walk.specs.declared.Extent.the-variants.{Octets}
+use Rattle.tlvs.specs.Tlvs.{written, octetsOf, endTlv}
 
 -- One TLV
 

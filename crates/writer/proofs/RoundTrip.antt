@@ -16,18 +16,20 @@ use Rattle.octets.specs.Numbers.{pairOf}
 use Rattle.octets.specs.Address.{sixAt}
 use Rattle.fields.specs.Device.{wantedOf}
 use Rattle.fields.specs.Field.{portDescription, category, manufacturer, modelName, modelNumber, link, addressList}
-use Rattle.lldpdu.specs.Walk.{headOf, Walked, walk}
+use Rattle.walk.specs.Walk.{headOf, Walked, walk}
 use Rattle.lldpdu.specs.Extent.{portOk, portLength, restOf}
 use Rattle.lldpdu.specs.Outline.{secondsIn}
 use Rattle.lldpdu.proofs.ExtentLaws.{Good, reads, port-length}
-use Rattle.lldpdu.specs.declared.walk.Head.the-variants.{Whole}
-use Rattle.lldpdu.specs.declared.extent.Extent.the-variants.{Octets}
-use Rattle.reader.specs.Meaning.{contents, wellFormed, htipOf, Said, tlvsIn, saidIn, Answer, refused, answerOf}
+use Rattle.walk.specs.declared.Head.the-variants.{Whole}
+use Rattle.walk.specs.declared.Extent.the-variants.{Octets}
+use Rattle.found.specs.Contents.{contents, wellFormed, htipOf, tlvsIn}
+use Rattle.reading.specs.Meaning.{Said, saidIn, Answer, refused, answerOf}
 use Rattle.reader.specs.Frame.{frameOk, onFrame}
 use Rattle.reader.proofs.Agree.{frame-agrees}
-use Rattle.writer.specs.Encode.{written, octetsOf, chassisTlv, portTlv, secondsTlv, endTlv, wordsTlv, deviceTlv, unlessEmpty, ifLinked, ifListed, fieldTlvs, tlvsOf, encode}
-use Rattle.writer.specs.Rules.{portRules, stringRules, goodbyeRules, liveRules, rules, soundOf}
-use Rattle.writer.proofs.EncodeLaws.{octets-append}
+use Rattle.tlvs.specs.Tlvs.{written, octetsOf, chassisTlv, portTlv, secondsTlv, endTlv, wordsTlv, deviceTlv, unlessEmpty, ifLinked, ifListed}
+use Rattle.announcement.specs.Encode.{fieldTlvs, tlvsOf, encode}
+use Rattle.description.specs.Rules.{portRules, stringRules, goodbyeRules, liveRules, rules, soundOf}
+use Rattle.tlvs.proofs.TlvLaws.{octets-append}
 use Rattle.writer.proofs.ReadBack.{head-written, AllPassed, passed-append, laid, laid-are, walk-octets}
 use Rattle.writer.proofs.Topics.{contents-append, formed-append, Speaks, unlessNone, speaks-string, words-about, device-about, linkContents, speaks-link, first-link, listContents, speaks-list, first-list, first-string}
 

@@ -14,17 +14,18 @@ use Rattle.tally.specs.Tests.{pick}
 use Rattle.tally.proofs.TestsLaws.{both-true, Held, held}
 use Rattle.fields.specs.Text.{textOk}
 use Rattle.fields.specs.Device.{wantedOf, deviceOf}
-use Rattle.fields.specs.Link.{linkOk, listOk}
+use Rattle.links.specs.Link.{linkOk, listOk}
 use Rattle.fields.specs.Field.{link, addressList, portDescription, descriptionOf, linkOf, listOf, isTtc, ttcOf, fieldOf}
 use Rattle.fields.specs.declared.Wanted.the-variants.{Text}
 use Rattle.fields.specs.declared.Field.{Field}
 use Rattle.fields.specs.declared.Field.the-variants.{Skipped, Malformed, Says}
-use Rattle.fields.proofs.LinkLaws.{link-counts}
-use Rattle.lldpdu.specs.Walk.{Tlv, stepOf}
-use Rattle.reader.specs.Meaning.{onField, contents, formed, wellFormed, LinkInfo, first, firstLink, firstList}
-use Rattle.writer.specs.Encode.{wordsTlv, ttcTlv, deviceTlv, linkContent, linkTlv, listTlv, unlessEmpty, ifLinked, ifListed}
-use Rattle.writer.specs.Rules.{wordsSound, tableRules, tableSound, linkSound, listedSound, listSound}
-use Rattle.writer.proofs.EncodeLaws.{link-length}
+use Rattle.links.proofs.LinkLaws.{link-counts}
+use Rattle.walk.specs.Walk.{Tlv, stepOf}
+use Rattle.found.specs.Contents.{onField, contents, formed, wellFormed, LinkInfo, first}
+use Rattle.reading.specs.Meaning.{firstLink, firstList}
+use Rattle.tlvs.specs.Tlvs.{wordsTlv, ttcTlv, deviceTlv, linkContent, linkTlv, listTlv, unlessEmpty, ifLinked, ifListed}
+use Rattle.description.specs.Rules.{wordsSound, tableRules, tableSound, linkSound, listedSound, listSound}
+use Rattle.tlvs.proofs.TlvLaws.{link-length}
 use Rattle.writer.proofs.ReadBack.{Passed, AllPassed, none-passed, more-passed}
 
 -- Lists of TLVs

@@ -2,25 +2,26 @@
 -- 9 is decided first, by the answer for an output of 1,500 octets: what keeps the rules has room there.
 use Prim.Native.Nat.{ℕ, _<_, _≤_}
 use mathlib.Core.Path.{_≡_, refl, sym, ap, _∙_}
-use mathlib.Core.List.{List}
+use mathlib.Core.List.{List, _++_}
 use mathlib.Core.Bool.{Bool, true, false, not}
 use native.Mathlib.Omega.{arith}
+use native.Mathlib.Nat.{zero-add}
 use borrow.Author.Tests.{le-leb, lt-leb}
-use lib.ListN.{length}
+use lib.ListN.{length, drop}
+use lib.Seq.{take-length}
 use lib.Dec.{leb, eqb}
 use Rattle.tally.specs.Tests.{pick, both}
-use Rattle.reader.specs.Meaning.{saidBy}
-use Rattle.reader.specs.declared.reading.Description.{Description}
-use Rattle.writer.specs.Encode.{encode}
-use Rattle.writer.specs.Rules.{soundOf, allInside}
+use Rattle.tally.proofs.TestsLaws.{both-false}
+use Rattle.output.specs.Output.{Output, outputAt, puts}
+use Rattle.output.proofs.OutputLaws.{puts-fits}
+use Rattle.reading.specs.Meaning.{saidBy}
+use Rattle.reading.specs.declared.Description.{Description}
+use Rattle.announcement.specs.Encode.{encode}
+use Rattle.parts.specs.Inside.{allInside}
+use Rattle.description.specs.Rules.{soundOf}
 use Rattle.writer.specs.Write.{refusalGiven, octetsWritten, keeps, writeOf, over, Writes}
 use Rattle.writer.specs.declared.Written.{Written}
 use Rattle.writer.specs.declared.Written.the-variants.{Octets, Refused}
-
--- a test that fails decides, whatever went before it
-fails : (a : Bool) → both a false ≡ false
-fails true = refl
-fails false = refl
 
 -- n octets: the rules are kept, and n is the size
 passed : (a b t : Bool) (l n : ℕ) → pick (both (both a b) t) (pick t (Octets l) (Refused 10)) (Refused 9) ≡ Octets n → (b ≡ true) × (n ≡ l)
@@ -39,6 +40,13 @@ left true true l room = refl
 left true false l room = refl
 left false t l room = refl
 
+-- what is put at the front, and has room there, stands over what was there
+put-zero : (out x : List ℕ) {now : List ℕ} {r : ℕ} → length x ≤ length out → outputAt now r ≡ puts x (outputAt out 0) → now ≡ over (length x) x out
+put-zero out x h e =
+    ap (λ (o : Output). o .octets) (e ∙ puts-fits x out 0 (omega arith))
+    ∙ ap (λ (n : ℕ). x ++ drop n out) (zero-add (length x))
+    ∙ ap (λ (l : List ℕ). l ++ drop (length x) out) (sym (take-length x))
+
 module _ (s : List ℕ) (d : Description) where
   -- The answer where any LLDPDU has room
 
@@ -48,12 +56,12 @@ module _ (s : List ℕ) (d : Description) where
 
   pub unsound : soundOf (saidBy s d) ≡ false → Refused 9 ≡ writeOf s d 1500
   unfolding writeOf keeps
-  unsound e = rw (e, fails (allInside (length s) d))
+  unsound e = rw (e, both-false (allInside (length s) d))
 
   module _ {n : ℕ} (q : n ≡ length (encode (saidBy s d))) where
     pub too-long : 1500 < n → Refused 9 ≡ writeOf s d 1500
     unfolding writeOf
-    too-long h = rw (← q, lt-leb n 1500 h, fails (keeps s d))
+    too-long h = rw (← q, lt-leb n 1500 h, both-false (keeps s d))
 
     pub wanted : allInside (length s) d ≡ true → soundOf (saidBy s d) ≡ true → n ≤ 1500 → Octets n ≡ writeOf s d 1500
     unfolding writeOf keeps
@@ -77,8 +85,12 @@ module _ (s : List ℕ) (d : Description) where
       pub too-short : length out < n → Writes s d out (Refused 10) out
       too-short k = record { exact = rw (lt-leb n (length out) k) at (then out e); output = refl }
 
-      pub writes : n ≤ length out → {now : List ℕ} → now ≡ over (length (encode (saidBy s d))) (encode (saidBy s d)) out → Writes s d out (Octets n) now
-      writes k g = record { exact = rw (le-leb n (length out) k) at (then out e); output = rw (said .1) g }
+      pub writes : n ≤ length out → {now : List ℕ} {r : ℕ} → outputAt now r ≡ puts (encode (saidBy s d)) (outputAt out 0) → Writes s d out (Octets n) now
+      writes k g =
+          record {
+            exact = rw (le-leb n (length out) k) at (then out e);
+            output = rw (said .1) (put-zero out (encode (saidBy s d)) (omega (arith, said .1)) g);
+          }
 
 -- 9 exactly where a rule is broken or 1,500 octets do not hold it (R9), 10 exactly where they do and the output does not (R10)
 module _ (s : List ℕ) (d : Description) (room : ℕ) where

@@ -1,6 +1,3 @@
--- The definitions of this crate: what is written, when a description keeps the rules, and the answer.
--- Put says what an inner function leaves in the buffer; the other three are the ones to believe.
-pub mod Encode
-pub mod Rules
+-- The definition of this crate: what the writer answers, and what it leaves in the output.
+-- What is written is said in announcement/specs, and the rules of a description in description/specs.
 pub mod Write
-pub mod Put

@@ -7,10 +7,11 @@ use mathlib.Core.Bool.{Bool}
 use lib.ListN.{length, take, drop}
 use lib.Dec.{leb}
 use Rattle.tally.specs.Tests.{pick, both}
-use Rattle.reader.specs.Meaning.{saidBy}
-use Rattle.reader.specs.declared.reading.Description.{Description}
-use Rattle.writer.specs.Encode.{encode}
-use Rattle.writer.specs.Rules.{soundOf, allInside}
+use Rattle.reading.specs.Meaning.{saidBy}
+use Rattle.reading.specs.declared.Description.{Description}
+use Rattle.announcement.specs.Encode.{encode}
+use Rattle.parts.specs.Inside.{allInside}
+use Rattle.description.specs.Rules.{soundOf}
 use Rattle.writer.specs.declared.Written.{Written}
 use Rattle.writer.specs.declared.Written.the-variants.{Octets, Refused}
 

@@ -2,17 +2,14 @@
 // A description that breaks a rule, or an output that is too short, gets its number and not one octet is written.
 ghost use mathlib.Core.Path.{_≡_};
 ghost use Rattle.writer.specs.Write.{writeOf, Writes};
-
-mod inside;
-mod put;
-mod size;
-mod sound;
-
-use inside::all_inside;
-use put::put_lldpdu;
-use reader::Description;
-use size::size_of;
-use sound::is_sound;
+use announcement::put_lldpdu;
+use announcement::size_of;
+use description::is_sound;
+use parts::all_inside;
+pub use reader::AddressList;
+pub use reader::Description;
+pub use reader::Link;
+pub use reader::Part;
 
 pub enum Written {
     Octets(usize),
@@ -53,7 +50,7 @@ pub fn write(d: Description, text: &[u8], out: &mut [u8]) -> Written
             if size > out.len() {
                 return Written::Refused(NO_ROOM);
             }
-            put_lldpdu(text, d, out);
+            put_lldpdu(out, text, d);
             Written::Octets(size)
         }
     }

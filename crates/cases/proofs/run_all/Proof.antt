@@ -6,19 +6,16 @@ use Rattle.cases.proofs.run_all.Statement.{statement}
 use Rattle.cases.proofs.run_all.Tie as tie
 
 abbrev Inv-loop : tie.InvT-loop
-Inv-loop file fd case₀ case = case ≤ 100000
+Inv-loop announced octets at₀ case₀ at case = case ≤ 10000
 
 abbrev μ-loop : tie.MeasureT-loop
-μ-loop file fd case₀ case = 100000 - case
+μ-loop announced octets at₀ case₀ at case = 10000 - case
 
 loop-holds : tie.Need-loop-holds Inv-loop μ-loop
 loop-holds c = search needs
 
 run-case-requires : tie.Need-run-case-requires Inv-loop μ-loop
 run-case-requires c κs = search needs
-
-returns : tie.Need-returns Inv-loop μ-loop
-returns c = search needs
 
 add-case : tie.Need-add-case Inv-loop μ-loop
 add-case c = search needs
@@ -29,19 +26,10 @@ loop-less c = search needs
 loop-again : tie.Need-loop-again Inv-loop μ-loop
 loop-again c = search needs
 
-returns-2 : tie.Need-returns-2 Inv-loop μ-loop
-returns-2 c = search needs
+returns : tie.Need-returns Inv-loop μ-loop
+returns c = search needs
 
 pub run-all-spec : {M : Type 1} → statement M
 run-all-spec =
     tie.close
-    (tie.spec
-    Inv-loop
-    μ-loop
-    loop-holds
-    run-case-requires
-    returns
-    add-case
-    loop-less
-    loop-again
-    returns-2)
+    (tie.spec Inv-loop μ-loop loop-holds run-case-requires add-case loop-less loop-again returns)

@@ -3,24 +3,25 @@
 use mathlib.Core.Path.{_≡_}
 use Prim.Native.Nat.{_≤_, _-_}
 use lib.ListN.{length}
+use native.Mathlib.Omega.{arith}
 use borrow.Author.Needs.{needs}
 use Rattle.events.proofs.run_all.Statement.{statement}
 use Rattle.events.proofs.run_all.Tie as tie
 
 abbrev Inv-loop : tie.InvT-loop
-Inv-loop fd store₀ kept₀ d₀ case₀ store kept d case = (case ≤ 100000) × ((length store ≡ length store₀) × (length kept ≡ length kept₀))
+Inv-loop file store₀ kept₀ t₀ k₀ lent₀ at₀ case₀ store kept t k lent at case = (case ≤ 100000) × ((length store ≡ length store₀) × (length kept ≡ length kept₀))
 
 abbrev μ-loop : tie.MeasureT-loop
-μ-loop fd store₀ kept₀ d₀ case₀ store kept d case = 100000 - case
+μ-loop file store₀ kept₀ t₀ k₀ lent₀ at₀ case₀ store kept t k lent at case = 100000 - case
 
 empty-requires : tie.Need-empty-requires Inv-loop μ-loop
 empty-requires c κs = search needs
 
+empty-requires-2 : tie.Need-empty-requires-2 Inv-loop μ-loop
+empty-requires-2 c κs = search needs
+
 loop-holds : tie.Need-loop-holds Inv-loop μ-loop
 loop-holds c = search needs
-
-run-record-requires : tie.Need-run-record-requires Inv-loop μ-loop
-run-record-requires c κs = search needs
 
 same-length : tie.Need-same-length Inv-loop μ-loop
 same-length c = search needs
@@ -31,14 +32,41 @@ same-length-2 c = search needs
 returns : tie.Need-returns Inv-loop μ-loop
 returns c = search needs
 
+text-of-requires : tie.Need-text-of-requires Inv-loop μ-loop
+text-of-requires c κs = search needs
+
+record-at-requires : tie.Need-record-at-requires Inv-loop μ-loop
+record-at-requires c κs = search needs
+
+frame-at-requires : tie.Need-frame-at-requires Inv-loop μ-loop
+frame-at-requires c κs = search needs
+
+run-requires : tie.Need-run-requires Inv-loop μ-loop
+run-requires c κs = search needs
+
+chosen-requires : tie.Need-chosen-requires Inv-loop μ-loop
+chosen-requires c κs = search needs
+
+chosen-requires-2 : tie.Need-chosen-requires-2 Inv-loop μ-loop
+chosen-requires-2 c κs = search needs
+
+lent-behind-requires : tie.Need-lent-behind-requires Inv-loop μ-loop
+lent-behind-requires c κs = search needs
+
+next-requires : tie.Need-next-requires Inv-loop μ-loop
+next-requires c κs = search needs
+
 add-case : tie.Need-add-case Inv-loop μ-loop
-add-case c = search needs
+add-case c = omega (arith, c .before .before .before .before .before .before .before .before .before .before .before .before .before .before .before .before .before .loop-test .taken)
 
 loop-less : tie.Need-loop-less Inv-loop μ-loop
-loop-less c = search needs
+loop-less c = omega (arith, c .before .before .before .before .before .before .before .before .before .before .before .before .before .before .before .before .before .loop-test .taken)
 
 loop-again : tie.Need-loop-again Inv-loop μ-loop
-loop-again c = search needs
+loop-again c =
+    let called = c .before .before .before .before .before .before .before .before .before .before in
+    let turn = called .before .before .before .before .before .before .before in
+    (omega (arith, turn .loop-test .taken), (search (needs, called .run .kept, turn .before .loop .inv), search (needs, called .run .kept, turn .before .loop .inv)))
 
 same-length-3 : tie.Need-same-length-3 Inv-loop μ-loop
 same-length-3 c = search needs
@@ -56,11 +84,19 @@ run-all-spec =
     Inv-loop
     μ-loop
     empty-requires
+    empty-requires-2
     loop-holds
-    run-record-requires
     same-length
     same-length-2
     returns
+    text-of-requires
+    record-at-requires
+    frame-at-requires
+    run-requires
+    chosen-requires
+    chosen-requires-2
+    lent-behind-requires
+    next-requires
     add-case
     loop-less
     loop-again

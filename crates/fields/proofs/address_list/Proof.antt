@@ -1,5 +1,5 @@
 -- `fields::address_list` meets its contract: one test, on the count that was read.
--- The law is list-count of LinkLaws.
+-- The law is list-count of links.
 use Prim.Native.Nat.{_+_, _*_}
 use native.Mathlib.Omega.{arith}
 use denote.Ref.{now}
@@ -7,7 +7,7 @@ use borrow.Author.Tests.{eq-eqb, ne-eqb}
 use borrow.Author.Needs.{needs}
 use lib.ListN.{length}
 use Rattle.fields.specs.Field.{listOf}
-use Rattle.fields.proofs.LinkLaws.{list-count}
+use Rattle.links.proofs.LinkLaws.{list-count}
 use Rattle.fields.proofs.address_list.Statement.{statement}
 use Rattle.fields.proofs.address_list.Tie as tie
 

@@ -1,5 +1,5 @@
 -- `fields::is_text` meets its contract: what is left of the text is well formed exactly if the whole is.
--- One octet is text-step, the end is text-end of TextLaws.
+-- One octet is text-stops or text-goes, the end is text-end of TextLaws.
 use Prim.Native.Nat.{_-_}
 use mathlib.Core.Path.{_≡_, refl, sym, _∙_}
 use native.Mathlib.Omega.{arith}
@@ -8,7 +8,7 @@ use borrow.Author.Needs.{needs}
 use borrow.Author.Tests.{not-true, not-false}
 use lib.ListN.{length, drop}
 use Rattle.fields.specs.Text.{textOk}
-use Rattle.fields.proofs.TextLaws.{text-step, text-end}
+use Rattle.fields.proofs.TextLaws.{text-stops, text-goes, text-end}
 use Rattle.fields.proofs.is_text.Statement.{statement}
 use Rattle.fields.proofs.is_text.Tie as tie
 
@@ -30,10 +30,7 @@ printable-requires c κs = search needs
 returns : tie.Need-returns Inv-loop μ-loop
 returns c =
     let l = c .before .before .before .before in
-    let s = now (l .before .before .args .part) in
-    let e = sym (l .loop .inv) ∙ text-step s (l .loop .i) (omega arith) in
-    let f = sym (c .before .printable .ensures) ∙ not-true _ (c .if1 .taken) in
-    sym (e ∙ rw f)
+    text-stops (now (l .before .before .args .part)) (l .loop .i) (l .loop .inv) (omega arith) (c .before .printable .ensures) (not-true _ (c .if1 .taken))
 
 add-i : tie.Need-add-i Inv-loop μ-loop
 add-i c = omega arith
@@ -44,10 +41,7 @@ loop-less c = omega arith
 loop-again : tie.Need-loop-again Inv-loop μ-loop
 loop-again c =
     let l = c .before .before .before .before in
-    let s = now (l .before .before .args .part) in
-    let e = sym (l .loop .inv) ∙ text-step s (l .loop .i) (omega arith) in
-    let f = sym (c .before .printable .ensures) ∙ not-false _ (c .if1 .left) in
-    sym (e ∙ rw f)
+    text-goes (now (l .before .before .args .part)) (l .loop .i) (l .loop .inv) (omega arith) (c .before .printable .ensures) (not-false _ (c .if1 .left))
 
 returns-2 : tie.Need-returns-2 Inv-loop μ-loop
 returns-2 c =

@@ -1,6 +1,6 @@
 -- `fields::wanted_of` meets its contract: each range of the code is a case of the rule.
 -- The laws are wanted-model and wanted-free of DeviceLaws.
-use mathlib.Core.Path.{_≡_}
+use mathlib.Core.Path.{_≡_, refl}
 use native.Mathlib.Omega.{arith}
 use Rattle.fields.specs.Device.{wantedOf}
 use Rattle.fields.proofs.DeviceLaws.{wanted-free, wanted-model}
@@ -10,17 +10,17 @@ use Rattle.fields.proofs.wanted_of.Tie as tie
 returns : tie.Need-returns
 unfolding wantedOf
 returns c =
-    rw (c .match .keys1)
+    rw (c .match .keys1) refl
 
 returns-2 : tie.Need-returns-2
 unfolding wantedOf
 returns-2 c =
-    rw (c .match .keys2)
+    rw (c .match .keys2) refl
 
 returns-3 : tie.Need-returns-3
 unfolding wantedOf
 returns-3 c =
-    rw (c .match .keys3)
+    rw (c .match .keys3) refl
 
 returns-4 : tie.Need-returns-4
 returns-4 c =
@@ -34,7 +34,7 @@ returns-4 c =
 returns-5 : tie.Need-returns-5
 unfolding wantedOf
 returns-5 c =
-    rw (c .match .keys4)
+    rw (c .match .keys4) refl
 
 returns-6 : tie.Need-returns-6
 returns-6 c =

@@ -1,14 +1,14 @@
 -- `numbers::shares_fit` meets its contract: every port below p holds no more than it may.
 -- One that does decides (all-stop); at the end the sum beyond two decides.
 use Prim.Native.Nat.{_-_, _≤_}
-use mathlib.Core.Path.{_≡_, sym}
+use mathlib.Core.Path.{_≡_, refl, sym}
 use mathlib.Core.Bool.{true}
 use native.Mathlib.Omega.{arith}
 use borrow.Author.Needs.{needs}
 use borrow.Author.Tests.{le-leb, lt-leb}
 use lib.Dec.{leb}
-use Rattle.tally.specs.Counts.{allBelow}
-use Rattle.tally.proofs.CountsLaws.{all-none, all-more, all-stop}
+use Rattle.tally.specs.Ranges.{allBelow}
+use Rattle.tally.proofs.RangesLaws.{all-none, all-more, all-stop}
 use Rattle.rules.specs.Shares.{most}
 use Rattle.numbers.specs.Sizes.{ports}
 use Rattle.numbers.specs.Numbers.{holds, sharesOk}
@@ -56,7 +56,7 @@ unfolding sharesOk
 returns-2 c =
     let l = c .before .before in
     let e : l .loop .p ≡ ports = omega arith in
-    rw (rw e at (l .loop .inv .1), c .beyond-sure .ensures)
+    rw (rw e at (l .loop .inv .1), c .beyond-sure .ensures) refl
 
 pub shares-fit-spec : {M : Type 1} → statement M
 shares-fit-spec =

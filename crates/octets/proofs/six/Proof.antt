@@ -1,6 +1,6 @@
 -- `octets::six` meets its contract: six total reads, or six zeros past the end.
 -- The second case is six-past of AddressLaws.
-use mathlib.Core.Path.{sym}
+use mathlib.Core.Path.{refl, sym}
 use denote.Ref.{now}
 use borrow.Author.Needs.{needs}
 use Rattle.octets.specs.Address.{sixAt}
@@ -46,7 +46,7 @@ octet-requires-5 c κs = search needs
 
 returns-2 : tie.Need-returns-2
 unfolding sixAt
-returns-2 c = rw (c .before .before .before .before .octet .ensures, c .before .before .before .octet2 .ensures, c .before .before .octet3 .ensures, c .before .octet4 .ensures, c .octet5 .ensures)
+returns-2 c = rw (c .before .before .before .before .octet .ensures, c .before .before .before .octet2 .ensures, c .before .before .octet3 .ensures, c .before .octet4 .ensures, c .octet5 .ensures) refl
 
 pub six-spec : {M : Type 1} → statement M
 six-spec =

@@ -1,12 +1,8 @@
 -- `writer::write` meets its contract: 9, then 10, then the octets.
 -- The laws are in WriteLaws, one for each return.
 use mathlib.Core.Path.{sym, _∙_}
-use native.Mathlib.Omega.{arith}
 use denote.Ref.{now}
 use borrow.Author.Needs.{needs}
-use Rattle.writer.specs.Encode.{encode}
-use Rattle.reader.specs.Meaning.{saidBy}
-use Rattle.writer.proofs.PutLaws.{put-zero}
 use Rattle.writer.proofs.WriteLaws.{refuses, said, too-short, writes}
 use Rattle.writer.proofs.write.Statement.{statement}
 use Rattle.writer.proofs.write.Tie as tie
@@ -32,8 +28,7 @@ put-lldpdu-requires c κs =
     let c1 = c .before .before .before in
     let c2 = c1 .before .before in
     let c3 = c2 .before .before .before in
-    let g = said (now (c3 .args .text)) (c3 .args .d) (sym (c2 .size-wanted .ensures) ∙ c1 .size .given .1) in
-    (g .0, omega (arith, g .1, c .before .if1 .left))
+    said (now (c3 .args .text)) (c3 .args .d) (sym (c2 .size-wanted .ensures) ∙ c1 .size .given .1) .0
 
 returns-2 : tie.Need-returns-2
 returns-2 c =
@@ -50,9 +45,7 @@ returns-3 c =
     let c2 = c1 .before .before in
     let c3 = c2 .before .before in
     let c4 = c3 .before .before .before in
-    let s = now (c4 .args .text) in
-    let out = now (c4 .args .out) in
-    writes s (c4 .args .d) (sym (c3 .size-wanted .ensures) ∙ c2 .size .given .1) out (c1 .if1 .left) (c .before .before .put-lldpdu .ensures .kept ∙ put-zero out (encode (saidBy s (c4 .args .d))))
+    writes (now (c4 .args .text)) (c4 .args .d) (sym (c3 .size-wanted .ensures) ∙ c2 .size .given .1) (now (c4 .args .out)) (c1 .if1 .left) (c .before .before .put-lldpdu .ensures)
 
 pub write-spec : {M : Type 1} → statement M
 write-spec =

@@ -8,19 +8,13 @@ use Rattle.events.proofs.answers.call_five.Statement.{statement}
 use Rattle.events.proofs.answers.call_five.Tie as tie
 
 abbrev Inv-loop : tie.InvT-loop
-Inv-loop r buffer₀ frame u₀ kind₀ t7 buffer u kind = (kind ≤ 6) × (length buffer ≡ length buffer₀)
+Inv-loop r buffer₀ frame u₀ kind₀ buffer u kind = (kind ≤ 6) × (length buffer ≡ length buffer₀)
 
 abbrev μ-loop : tie.MeasureT-loop
-μ-loop r buffer₀ frame u₀ kind₀ t7 buffer u kind = 6 - kind
+μ-loop r buffer₀ frame u₀ kind₀ buffer u kind = 6 - kind
 
 loop-holds : tie.Need-loop-holds Inv-loop μ-loop
 loop-holds c = search needs
-
-slice-aggregate-say : tie.Need-slice-aggregate-say Inv-loop μ-loop
-slice-aggregate-say c = search needs
-
-say-requires : tie.Need-say-requires Inv-loop μ-loop
-say-requires c κs = search needs
 
 call-requires : tie.Need-call-requires Inv-loop μ-loop
 call-requires c κs = search needs
@@ -33,6 +27,9 @@ loop-less c = search needs
 
 loop-again : tie.Need-loop-again Inv-loop μ-loop
 loop-again c = search needs
+
+say-digest-requires : tie.Need-say-digest-requires Inv-loop μ-loop
+say-digest-requires c κs = search needs
 
 same-length : tie.Need-same-length Inv-loop μ-loop
 same-length c = search needs
@@ -47,11 +44,10 @@ call-five-spec =
     Inv-loop
     μ-loop
     loop-holds
-    slice-aggregate-say
-    say-requires
     call-requires
     add-kind
     loop-less
     loop-again
+    say-digest-requires
     same-length
     returns)

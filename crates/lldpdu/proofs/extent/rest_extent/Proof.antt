@@ -1,13 +1,13 @@
 -- `lldpdu::extent::rest_extent` meets its contract: the walk from here has the extent of the walk from the start.
--- The laws are walk-refused, walk-end and walk-next of WalkLaws.
+-- The laws are walk-refused, walk-end and walk-next of the walk.
 use Prim.Native.Nat.{_-_}
 use mathlib.Core.Path.{_≡_, refl, sym, ap, _∙_}
 use native.Mathlib.Omega.{arith}
 use denote.Ref.{now}
 use borrow.Author.Needs.{needs}
 use lib.ListN.{length, drop}
-use Rattle.lldpdu.specs.Walk.{Walked, walk}
-use Rattle.lldpdu.proofs.WalkLaws.{walk-refused, walk-end, walk-next, next-fits, next-on}
+use Rattle.walk.specs.Walk.{Walked, walk}
+use Rattle.walk.proofs.WalkLaws.{walk-refused, walk-end, walk-next, next-fits, next-on}
 use Rattle.lldpdu.proofs.extent.rest_extent.Statement.{statement}
 use Rattle.lldpdu.proofs.extent.rest_extent.Tie as tie
 

@@ -1,6 +1,6 @@
 -- `lldpdu::outline::outline_lldpdu` meets its contract: a refusal alone, or each field by the octets read.
 -- A valid LLDPDU has a port ID of 2 to 256 octets (good-port), so no sum wraps.
-use mathlib.Core.Path.{sym, _∙_}
+use mathlib.Core.Path.{refl, sym, _∙_}
 use native.Mathlib.Omega.{arith}
 use denote.Ref.{now}
 use borrow.Author.Needs.{needs}
@@ -64,6 +64,7 @@ returns-2 c =
       c .before .before .before .before .six .ensures,
       c .before .before .before .before .before .port-length .ensures,
     )
+    refl
 
 pub outline-lldpdu-spec : {M : Type 1} → statement M
 outline-lldpdu-spec =

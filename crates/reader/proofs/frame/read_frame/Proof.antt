@@ -5,7 +5,7 @@ use native.Mathlib.Omega.{arith}
 use denote.Ref.{now}
 use borrow.Author.Needs.{needs}
 use Rattle.octets.proofs.PartLaws.{part-from}
-use Rattle.reader.specs.Reading.{readingOf}
+use Rattle.reading.specs.Reading.{readingOf}
 use Rattle.reader.proofs.FrameLaws.{frame-size, on-good, on-bad, frame-exactly}
 use Rattle.reader.proofs.frame.read_frame.Statement.{statement}
 use Rattle.reader.proofs.frame.read_frame.Tie as tie

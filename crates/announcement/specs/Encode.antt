@@ -1,0 +1,22 @@
+-- What the writer writes of what is said (W1): the TLVs in their order, then their octets.
+-- Each TLV by itself stands in tlvs/specs.
+use Prim.Native.Nat.{ℕ}
+use mathlib.Core.List.{List, [], _∷_, _++_}
+use Rattle.walk.specs.Walk.{Tlv}
+use Rattle.reading.specs.Meaning.{Said}
+use Rattle.tlvs.specs.Tlvs.{octetsOf, chassisTlv, portTlv, secondsTlv, endTlv, wordsTlv, deviceTlv, unlessEmpty, ifLinked, ifListed}
+
+unfoldable pub fieldTlvs : Said → List Tlv
+fieldTlvs d =
+    unlessEmpty wordsTlv (d .words)
+    ++ (unlessEmpty (deviceTlv 1) (d .category)
+    ++ (unlessEmpty (deviceTlv 2) (d .manufacturer)
+    ++ (unlessEmpty (deviceTlv 3) (d .model)
+    ++ (unlessEmpty (deviceTlv 4) (d .number)
+    ++ (ifLinked (d .link) ++ ifListed (d .list))))))
+
+unfoldable pub tlvsOf : Said → List Tlv
+tlvsOf d = chassisTlv (d .chassis) ∷ portTlv (d .subtype) (d .port) ∷ secondsTlv (d .seconds) ∷ (fieldTlvs d ++ (endTlv ∷ []))
+
+unfoldable pub encode : Said → List ℕ
+encode d = octetsOf (tlvsOf d)

@@ -1,0 +1,229 @@
+// What the cases print: answers and octets, in the one layout that the stored output has.
+// An answer is made into numbers; a form, which is named by its number, says what stands between them.
+use forms::put_form;
+use libc::STDOUT_FILENO;
+use reader::AddressList;
+use reader::Description;
+use reader::Extent;
+use reader::Link;
+use reader::Naming;
+use reader::Outline;
+use reader::Part;
+use reader::Reading;
+use reader::text_of;
+
+// The numbers of the forms below.
+pub(crate) const REFUSED: usize = 1;
+
+pub(crate) const WROTE: usize = 2;
+
+pub(crate) const OUTPUT: usize = 3;
+
+pub(crate) const AGAIN_REFUSED: usize = 4;
+
+pub(crate) const AGAIN: usize = 5;
+
+const OUTLINE_REFUSED: usize = 6;
+
+const OUTLINE_VALID: usize = 7;
+
+const READING_REFUSED: usize = 8;
+
+const READING_NO: usize = 9;
+
+const READING_YES: usize = 10;
+
+const IDENTITY: usize = 11;
+
+const STRINGS: usize = 12;
+
+const LINK: usize = 13;
+
+const NO_LINK: usize = 14;
+
+const LIST: usize = 15;
+
+const NO_LIST: usize = 16;
+
+const NAMING_REFUSED: usize = 17;
+
+const NAMING_NONE: usize = 18;
+
+const NAMING: usize = 19;
+
+const END: usize = 20;
+
+// More than the longest words, which spell out a buffer of 1,600 octets.
+const LINE: usize = 4096;
+
+// A form, with its marks filled in.
+pub(crate) fn say(form: usize, values: [usize; 10], text: &[u8]) {
+    let mut line = [0u8; LINE];
+    let end = put_form(
+        &mut line,
+        0,
+        b"# refused #\n|# wrote #\n|# output % rest #\n|# again refused #\n|# again # %\n|# outline refused #\n|# outline valid # %|# reading refused #\n|# reading valid # no %|# reading valid # yes %| # % #| % % % % %| %/%/%| absent| %\n| absent\n|# naming refused #\n|# naming none\n|# naming # # # #\n|\n",
+        form,
+        &values,
+        text,
+    );
+    io::write_all(STDOUT_FILENO, text_of(&line, Part { start: 0, len: end }));
+}
+
+// A form that has two numbers, and then may have the whole text.
+pub(crate) fn say_two(form: usize, first: usize, second: usize, text: &[u8]) {
+    say(form, [first, second, 0, text.len(), 0, 0, 0, 0, 0, 0], text);
+}
+
+// What an outline and a reading both say of an announcement that is valid: its identity and its seconds.
+fn say_identity(
+    title: usize,
+    case: usize,
+    length: usize,
+    lldpdu: &[u8],
+    chassis: [u8; 6],
+    subtype: u8,
+    port: Part,
+    seconds: u16,
+) {
+    say_two(title, case, length, &chassis);
+    say(
+        IDENTITY,
+        [
+            subtype as usize,
+            port.start,
+            port.len,
+            seconds as usize,
+            0,
+            0,
+            0,
+            0,
+            0,
+            0,
+        ],
+        lldpdu,
+    );
+}
+
+pub(crate) fn say_outline(case: usize, lldpdu: &[u8], o: Outline) {
+    let extent = o.extent;
+    match extent {
+        Extent::Refused(n) => say_two(OUTLINE_REFUSED, case, n as usize, lldpdu),
+        Extent::Octets(length) => {
+            let chassis = o.chassis;
+            say_identity(
+                OUTLINE_VALID,
+                case,
+                length,
+                lldpdu,
+                chassis,
+                o.subtype,
+                o.port,
+                o.seconds,
+            );
+            say_two(END, 0, 0, lldpdu);
+        }
+    }
+}
+
+fn say_link(lldpdu: &[u8], link: Link) {
+    match link {
+        Link::Absent => say_two(NO_LINK, 0, 0, lldpdu),
+        Link::Table {
+            interface,
+            port,
+            addresses,
+        } => say(
+            LINK,
+            [
+                interface.start,
+                interface.len,
+                port.start,
+                port.len,
+                addresses.start,
+                addresses.len,
+                0,
+                0,
+                0,
+                0,
+            ],
+            lldpdu,
+        ),
+    }
+}
+
+fn say_list(lldpdu: &[u8], list: AddressList) {
+    match list {
+        AddressList::Absent => say_two(NO_LIST, 0, 0, lldpdu),
+        AddressList::Listed(addresses) => say_two(LIST, addresses.start, addresses.len, lldpdu),
+    }
+}
+
+fn say_fields(lldpdu: &[u8], d: Description) {
+    let link = d.link;
+    let list = d.list;
+    say(
+        STRINGS,
+        [
+            d.words.start,
+            d.words.len,
+            d.category.start,
+            d.category.len,
+            d.manufacturer.start,
+            d.manufacturer.len,
+            d.model.start,
+            d.model.len,
+            d.number.start,
+            d.number.len,
+        ],
+        lldpdu,
+    );
+    say_link(lldpdu, link);
+    say_list(lldpdu, list);
+}
+
+pub(crate) fn say_reading(case: usize, lldpdu: &[u8], r: Reading) {
+    let extent = r.extent;
+    match extent {
+        Extent::Refused(n) => say_two(READING_REFUSED, case, n as usize, lldpdu),
+        Extent::Octets(length) => {
+            let d = r.description;
+            let chassis = d.chassis;
+            let title = if r.htip { READING_YES } else { READING_NO };
+            say_identity(
+                title,
+                case,
+                length,
+                lldpdu,
+                chassis,
+                d.subtype,
+                d.port,
+                d.seconds,
+            );
+            say_fields(lldpdu, d);
+        }
+    }
+}
+
+pub(crate) fn say_naming(case: usize, lldpdu: &[u8], n: Naming) {
+    match n {
+        Naming::Refused(number) => say_two(NAMING_REFUSED, case, number as usize, lldpdu),
+        Naming::Nowhere => say_two(NAMING_NONE, case, 0, lldpdu),
+        Naming::Link { interface, port } => say(
+            NAMING,
+            [
+                case,
+                interface.octets as usize,
+                interface.value as usize,
+                port.octets as usize,
+                port.value as usize,
+                0,
+                0,
+                0,
+                0,
+                0,
+            ],
+            lldpdu,
+        ),
+    }
+}

@@ -1,0 +1,149 @@
+-- Laws of the rules: what a description that keeps them has, and the tests as the code makes them.
+-- `kept` takes the rules apart once; everything else cites its fields.
+use Prim.Native.Nat.{ℕ, _+_, _-_, _%_, _≤_}
+use mathlib.Core.Path.{_≡_, refl}
+use mathlib.Core.List.{List, []}
+use mathlib.Core.Bool.{Bool, true, false}
+use native.Mathlib.Omega.{arith}
+use borrow.Author.Tests.{leb-true, leb-false, eqb-true, le-leb, lt-leb}
+use lib.ListN.{length}
+use lib.Dec.{leb, eqb}
+use Rattle.tally.specs.Tests.{pick, all}
+use Rattle.tally.proofs.TestsLaws.{both-true, held}
+use Rattle.fields.specs.Text.{textOk}
+use Rattle.fields.specs.Field.{descriptionOf, fieldOf}
+use Rattle.fields.specs.declared.Field.the-variants.{Skipped, Malformed, Says}
+use Rattle.lldpdu.specs.Outline.{textOf}
+use Rattle.lldpdu.specs.declared.outline.Part.{Part}
+use Rattle.reading.specs.Meaning.{Said, linkMeant, listMeant}
+use Rattle.reading.specs.declared.Link.{Link}
+use Rattle.reading.specs.declared.Link.the-variants as link-is
+use Rattle.reading.specs.declared.AddressList.{AddressList}
+use Rattle.reading.specs.declared.AddressList.the-variants as list-is
+use Rattle.description.specs.Rules.{portRules, wordsSound, stringRules, tableRules, tableSound, linkSound, listedSound, listSound, noLink, noList, goodbyeRules, liveRules, rules, soundOf}
+
+-- what is said by a description that keeps the rules
+pub record Kept (d : Said) : Type 0 where
+  pub six : length (d .chassis) ≡ 6
+  pub subtype : (leb 1 (d .subtype) ≡ true) × (leb (d .subtype) 7 ≡ true)
+  pub port : (1 ≤ length (d .port)) × (length (d .port) ≤ 255)
+  pub words : length (d .words) ≤ 255
+  pub text : textOk (d .words) ≡ true
+  pub category : length (d .category) ≤ 255
+  pub manufacturer : length (d .manufacturer) ≤ 6
+  pub model : length (d .model) ≤ 31
+  pub number : length (d .number) ≤ 31
+  pub link : linkSound (d .link) ≡ true
+  pub list : listSound (d .list) ≡ true
+  pub timely : pick (eqb (d .seconds) 0) (all (goodbyeRules d)) (all (liveRules d)) ≡ true
+
+pub kept : (d : Said) → soundOf d ≡ true → Kept d
+unfolding soundOf
+kept d e =
+    let h = held (rules d) e in
+    let n = length (d .port) in
+    let p = held (portRules (d .subtype) n) (h .1 .0) in
+    let w = both-true (leb (length (d .words)) 255) (textOk (d .words)) (h .1 .1 .0) in
+    let s = held (stringRules d) (h .1 .1 .1 .0) in
+    record {
+      six = eqb-true (length (d .chassis)) 6 (h .0);
+      subtype = (p .0, p .1 .0);
+      port = (leb-true 1 n (p .1 .1 .0), leb-true n 255 (p .1 .1 .1 .0));
+      words = leb-true (length (d .words)) 255 (w .0);
+      text = w .1;
+      category = leb-true (length (d .category)) 255 (s .0);
+      manufacturer = leb-true (length (d .manufacturer)) 6 (s .1 .0);
+      model = leb-true (length (d .model)) 31 (s .1 .1 .0);
+      number = leb-true (length (d .number)) 31 (s .1 .1 .1 .0);
+      link = h .1 .1 .1 .1 .0;
+      list = h .1 .1 .1 .1 .1 .0;
+      timely = h .1 .1 .1 .1 .1 .1 .0;
+    }
+
+-- link information and address list that keep W5
+pub record Table (n m a : ℕ) : Type 0 where
+  pub typed : (leb 1 n ≡ true) × (leb n 4 ≡ true)
+  pub numbered : (leb 1 m ≡ true) × (leb m 4 ≡ true)
+  pub interface : n ≤ 4
+  pub port : m ≤ 4
+  pub whole : a % 6 ≡ 0
+  pub short : 7 + n + m + a ≤ 511
+
+pub table : (n m a : ℕ) → tableSound n m a ≡ true → Table n m a
+table n m a e =
+    let h = held (tableRules n m a) e in
+    record {
+      typed = (h .0, h .1 .0);
+      numbered = (h .1 .1 .0, h .1 .1 .1 .0);
+      interface = leb-true n 4 (h .1 .0);
+      port = leb-true m 4 (h .1 .1 .1 .0);
+      whole = eqb-true (a % 6) 0 (h .1 .1 .1 .1 .0);
+      short = leb-true (7 + n + m + a) 511 (h .1 .1 .1 .1 .1 .0);
+    }
+
+pub record Listed (a : ℕ) : Type 0 where
+  pub whole : a % 6 ≡ 0
+  pub short : 5 + a ≤ 511
+
+pub listed : (a : ℕ) → listedSound a ≡ true → Listed a
+listed a e =
+    let h = both-true (eqb (a % 6) 0) (leb (5 + a) 511) e in
+    record { whole = eqb-true (a % 6) 0 (h .0); short = leb-true (5 + a) 511 (h .1) }
+
+-- whether link information or a list is there does not depend on the text
+pub no-link-same : (s : List ℕ) (l : Link) → noLink (linkMeant [] l) ≡ noLink (linkMeant s l)
+no-link-same s link-is.Absent = refl
+no-link-same s (link-is.Table i p a) = refl
+
+pub no-list-same : (s : List ℕ) (l : AddressList) → noList (listMeant [] l) ≡ noList (listMeant s l)
+no-list-same s list-is.Absent = refl
+no-list-same s (list-is.Listed a) = refl
+
+-- 511 is the most that L can be, whichever side of the comparison the sum stands on
+pub most-table : (n m a : ℕ) → n ≤ 4 → m ≤ 4 → leb a (504 - n - m) ≡ leb (7 + n + m + a) 511
+most-table n m a h k = go (leb (7 + n + m + a) 511) refl
+  where
+    go : (b : Bool) → leb (7 + n + m + a) 511 ≡ b → leb a (504 - n - m) ≡ b
+    go true e = le-leb a (504 - n - m) (omega (arith, leb-true (7 + n + m + a) 511 e))
+    go false e = lt-leb a (504 - n - m) (omega (arith, leb-false (7 + n + m + a) 511 e))
+
+pub most-listed : (a : ℕ) → leb a 506 ≡ leb (5 + a) 511
+most-listed a = go (leb (5 + a) 511) refl
+  where
+    go : (b : Bool) → leb (5 + a) 511 ≡ b → leb a 506 ≡ b
+    go true e = le-leb a 506 (omega (arith, leb-true (5 + a) 511 e))
+    go false e = lt-leb a 506 (omega (arith, leb-false (5 + a) 511 e))
+
+-- a port description is judged as the reader judges a TLV of type 4
+module _ (b : List ℕ) where
+  pub formed-words : {topic skip : ℕ} → fieldOf 4 b ≡ Says topic skip → true ≡ wordsSound b
+  unfolding fieldOf descriptionOf
+  formed-words {topic} {skip} e = go (wordsSound b) e
+    where
+      go : (t : Bool) → pick t (Says 0 0) Malformed ≡ Says topic skip → true ≡ t
+      go true q = refl
+      go false q = let z : _≡_ {A = ℕ} 0 1 = cc in absurd (omega arith)
+
+  pub malformed-words : fieldOf 4 b ≡ Malformed → false ≡ wordsSound b
+  unfolding fieldOf descriptionOf
+  malformed-words e = go (wordsSound b) e
+    where
+      go : (t : Bool) → pick t (Says 0 0) Malformed ≡ Malformed → false ≡ t
+      go true q = let z : _≡_ {A = ℕ} 0 1 = cc in absurd (omega arith)
+      go false q = refl
+
+  pub skipped-words : fieldOf 4 b ≡ Skipped → false ≡ wordsSound b
+  unfolding fieldOf descriptionOf
+  skipped-words e = go (wordsSound b) e
+    where
+      go : (t : Bool) → pick t (Says 0 0) Malformed ≡ Skipped → false ≡ t
+      go true q = let z : _≡_ {A = ℕ} 0 1 = cc in absurd (omega arith)
+      go false q = refl
+
+-- link information and an address list are judged by the counts that the code has read
+pub table-sound : (s : List ℕ) {l : Link} {i p a : Part} → l ≡ link-is.Table i p a → {n m k : ℕ} → n ≡ length (textOf s i) → m ≡ length (textOf s p) → k ≡ length (textOf s a)
+    → linkSound (linkMeant s l) ≡ tableSound n m k
+table-sound s e x y z = rw (e, x, y, z)
+
+pub listed-sound : (s : List ℕ) {l : AddressList} {a : Part} → l ≡ list-is.Listed a → {k : ℕ} → k ≡ length (textOf s a) → listSound (listMeant s l) ≡ listedSound k
+listed-sound s e z = rw (e, z)

@@ -1,0 +1,52 @@
+-- `events::print::mixed_numbers` meets its contract: the index stays below the length.
+-- Nothing else is claimed of a program that prints.
+use Prim.Native.Nat.{_≤_, _-_}
+use lib.ListN.{length}
+use borrow.Author.Needs.{needs}
+use Rattle.events.proofs.print.mixed_numbers.Statement.{statement}
+use Rattle.events.proofs.print.mixed_numbers.Tie as tie
+
+abbrev Inv-loop : tie.InvT-loop
+Inv-loop h s mix₀ i₀ i-end mix i = i ≤ length s
+
+abbrev μ-loop : tie.MeasureT-loop
+μ-loop h s mix₀ i₀ i-end mix i = length s - i
+
+loop-holds : tie.Need-loop-holds Inv-loop μ-loop
+loop-holds c = search needs
+
+mul-mixed : tie.Need-mul-mixed Inv-loop μ-loop
+mul-mixed c = search needs
+
+shared-slice-read-mixed : tie.Need-shared-slice-read-mixed Inv-loop μ-loop
+shared-slice-read-mixed c = search needs
+
+mixed-requires : tie.Need-mixed-requires Inv-loop μ-loop
+mixed-requires c κs = search needs
+
+add-i : tie.Need-add-i Inv-loop μ-loop
+add-i c = search needs
+
+loop-less : tie.Need-loop-less Inv-loop μ-loop
+loop-less c = search needs
+
+loop-again : tie.Need-loop-again Inv-loop μ-loop
+loop-again c = search needs
+
+returns : tie.Need-returns Inv-loop μ-loop
+returns c = search needs
+
+pub mixed-numbers-spec : {M : Type 1} → statement M
+mixed-numbers-spec =
+    tie.close
+    (tie.spec
+    Inv-loop
+    μ-loop
+    loop-holds
+    mul-mixed
+    shared-slice-read-mixed
+    mixed-requires
+    add-i
+    loop-less
+    loop-again
+    returns)

@@ -1,0 +1,8 @@
+-- The laws of this crate's definitions: what the loops cite, what a fit table has, and what keeps it fit.
+-- From ViewLaws on they are what the calls rest on.
+pub mod TwinLaws
+pub mod ViewLaws
+pub mod FitLaws
+pub mod KeepLaws
+pub mod WrittenLaws
+pub mod Sole

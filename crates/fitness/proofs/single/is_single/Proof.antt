@@ -1,0 +1,108 @@
+-- `fitness::is_single` meets its contract: no place below j has the identity of place i.
+-- Where the marks differ the identities do (mark-differs); else is_twin decides.
+use Prim.Native.Nat.{_-_, _≤_}
+use mathlib.Core.Path.{sym, _∙_}
+use mathlib.Core.Logic.{⊎-elim}
+use native.Mathlib.Omega.{arith}
+use denote.Ref.{now}
+use borrow.Author.Needs.{needs}
+use Rattle.tally.proofs.RangesLaws.{all-none}
+use Rattle.place.specs.State.{at, state}
+use Rattle.fitness.proofs.TwinLaws.{mark-differs, Alone, single-free, single-twin, single-end, alone-more}
+use Rattle.fitness.proofs.single.is_single.Statement.{statement}
+use Rattle.fitness.proofs.single.is_single.Tie as tie
+
+abbrev Inv-loop : tie.InvT-loop
+Inv-loop buffer i t marks mark j₀ j = (j ≤ i) × Alone (state t buffer) i j
+
+abbrev μ-loop : tie.MeasureT-loop
+μ-loop buffer i t marks mark j₀ j = i - j
+
+mul-if1 : tie.Need-mul-if1 Inv-loop μ-loop
+mul-if1 c = search needs
+
+element-copy-out-if1 : tie.Need-element-copy-out-if1 Inv-loop μ-loop
+element-copy-out-if1 c = search needs
+
+returns : tie.Need-returns Inv-loop μ-loop
+unfolding at
+returns c =
+    let a = c .before .before .before .args in
+    single-free (state (a .t1) (now (a .buffer))) (a .i) (c .if1 .taken)
+
+mul-mark : tie.Need-mul-mark Inv-loop μ-loop
+mul-mark c = search needs
+
+array-read-mark : tie.Need-array-read-mark Inv-loop μ-loop
+array-read-mark c = search needs
+
+loop-holds : tie.Need-loop-holds Inv-loop μ-loop
+loop-holds c = (search needs, all-none _)
+
+mul-if2 : tie.Need-mul-if2 Inv-loop μ-loop
+mul-if2 c = search needs
+
+array-read-if2 : tie.Need-array-read-if2 Inv-loop μ-loop
+array-read-if2 c = search needs
+
+is-twin-requires : tie.Need-is-twin-requires Inv-loop μ-loop
+is-twin-requires c κs = search needs
+
+returns-2 : tie.Need-returns-2 Inv-loop μ-loop
+unfolding at
+returns-2 c =
+    let twin = c .before in
+    let l = twin .before .before .before in
+    let used = l .before in
+    let a = used .before .before .before .args in
+    single-twin (state (a .t1) (now (a .buffer))) (a .i) (used .if1 .left) (l .loop .j) (search needs) (sym (twin .is-twin .ensures) ∙ c .if3 .taken)
+
+add-j : tie.Need-add-j Inv-loop μ-loop
+add-j c = search needs
+
+loop-less : tie.Need-loop-less Inv-loop μ-loop
+loop-less c = search needs
+
+loop-again : tie.Need-loop-again Inv-loop μ-loop
+unfolding at
+loop-again c =
+    let l = c .before .before in
+    let used = l .before in
+    let begin = used .before .before .before in
+    let a = begin .args in
+    let s = state (a .t1) (now (a .buffer)) in (
+      search needs,
+      ⊎-elim
+          (λ w. alone-more s (a .i) (l .loop .j) (l .loop .inv .1) (sym (w .1 .ensures) ∙ w .2 .left))
+          (λ w. alone-more s (a .i) (l .loop .j) (l .loop .inv .1) (mark-differs s (a .t3) (begin .pre .1 .1) (a .i) (l .loop .j) (search needs) (search needs) (used .if1 .left) (w .left)))
+          (c .if2 .came),
+    )
+
+returns-3 : tie.Need-returns-3 Inv-loop μ-loop
+unfolding at
+returns-3 c =
+    let l = c .before in
+    let used = l .before in
+    let a = used .before .before .before .args in
+    single-end (state (a .t1) (now (a .buffer))) (a .i) (used .if1 .left) (l .loop .j) (omega arith) (l .loop .inv .1)
+
+pub is-single-spec : {M : Type 1} → statement M
+is-single-spec =
+    tie.close
+    (tie.spec
+    Inv-loop
+    μ-loop
+    mul-if1
+    element-copy-out-if1
+    returns
+    mul-mark
+    array-read-mark
+    loop-holds
+    mul-if2
+    array-read-if2
+    is-twin-requires
+    returns-2
+    add-j
+    loop-less
+    loop-again
+    returns-3)

@@ -1,0 +1,66 @@
+// No identity occurs twice (N5 d): each place against those below it.
+// Identities are compared only where their marks are equal.
+ghost use mathlib.Core.Path.{_≡_};
+ghost use Prim.Native.Nat.{_<_};
+ghost use lib.ListN.{length};
+ghost use Rattle.tally.specs.Ranges.{allBelow};
+ghost use Rattle.numbers.specs.Sizes.{places};
+ghost use Rattle.place.specs.State.{octets, at, state, whoAt, isOf};
+ghost use Rattle.fitness.specs.Fit.{single};
+ghost use Rattle.marks.specs.Marks.{Marked};
+use lldpdu::outline_lldpdu;
+use lldpdu::text_of;
+use numbers::PLACES;
+use numbers::Table;
+use place::is_of;
+use place::lldpdu_at;
+
+// Whether place j has a record with the identity of place i.
+fn is_twin(t: Table, buffer: &[u8], i: usize, j: usize) -> bool
+    requires { ⌜ (i < places) × ((j < places) × (length (now buffer) ≡ octets)) ⌝ }
+    ensures { λ r. ⌜ r ≡ isOf (state t (now (buffer .entry))) (whoAt (at (state t (now (buffer .entry))) i)) j ⌝ }
+{
+    let l = lldpdu_at(t, buffer, i);
+    let o = outline_lldpdu(l);
+    let chassis = o.chassis;
+    is_of(
+        t,
+        buffer,
+        j,
+        t.port[i],
+        chassis,
+        o.subtype,
+        text_of(l, o.port),
+    )
+}
+
+// No place below i has the identity of place i (N5 d).
+fn is_single(t: Table, buffer: &[u8], marks: [u32; PLACES], i: usize) -> bool
+    requires { ⌜ (i < places) × ((length (now buffer) ≡ octets) × Marked (state t (now buffer)) marks) ⌝ }
+    ensures { λ r. ⌜ r ≡ single (state t (now (buffer .entry))) i ⌝ }
+{
+    if t.length[i] == 0 {
+        return true;
+    }
+    let mark = marks[i];
+    for j in 0..i {
+        if marks[j] == mark {
+            if is_twin(t, buffer, i, j) {
+                return false;
+            }
+        }
+    }
+    true
+}
+
+pub(crate) fn all_single(t: Table, buffer: &[u8], marks: [u32; PLACES]) -> bool
+    requires { ⌜ (length (now buffer) ≡ octets) × Marked (state t (now buffer)) marks ⌝ }
+    ensures { λ r. ⌜ r ≡ allBelow (single (state t (now (buffer .entry)))) places ⌝ }
+{
+    for i in 0..PLACES {
+        if is_single(t, buffer, marks, i) {} else {
+            return false;
+        }
+    }
+    true
+}

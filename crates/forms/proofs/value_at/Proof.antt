@@ -1,0 +1,23 @@
+-- `forms::value_at` meets its contract: an index below the length reads the value, any other gives 0.
+-- The second case is the default of getD.
+use denote.Ref.{now}
+use mathlib.Core.Path.{sym}
+use lib.ListN.{List·getD-eq-default}
+use borrow.Author.Needs.{needs}
+use Rattle.forms.proofs.value_at.Statement.{statement}
+use Rattle.forms.proofs.value_at.Tie as tie
+
+mul-result : tie.Need-mul-result
+mul-result c = search needs
+
+shared-slice-read-result : tie.Need-shared-slice-read-result
+shared-slice-read-result c = search needs
+
+returns : tie.Need-returns
+returns c = search needs
+
+returns-2 : tie.Need-returns-2
+returns-2 c = sym (List·getD-eq-default (now (c .before .args .values)) 0 (c .if1 .left))
+
+pub value-at-spec : {M : Type 1} → statement M
+value-at-spec = tie.close (tie.spec mul-result shared-slice-read-result returns returns-2)

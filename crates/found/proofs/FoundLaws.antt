@@ -1,0 +1,49 @@
+-- Laws of what is gathered: one step of the walk, in the shape of the loop.
+-- A field of the walk is within its information string, so that the sums of the code do not wrap.
+use Prim.Native.Nat.{ℕ, _+_, _≤_}
+use mathlib.Core.Path.{_≡_, ap, _∙_}
+use mathlib.Core.List.{List}
+use native.Mathlib.Omega.{arith}
+use lib.ListN.{length, take, drop, length-drop}
+use lib.Seq.{length-take-le}
+use Rattle.fields.specs.Field.{fieldOf}
+use Rattle.fields.specs.declared.Field.{Field}
+use Rattle.fields.specs.declared.Field.the-variants.{Skipped, Malformed, Says}
+use Rattle.fields.proofs.FieldLaws.{Fits, field-fits}
+use Rattle.walk.specs.Walk.{headOf, stepOf, Walked, walk}
+use Rattle.found.specs.Found.{Within, noted, gather}
+use Rattle.walk.proofs.WalkLaws.{walk-refused, walk-end, walk-next, next-fits}
+use Rattle.walk.specs.declared.Step.the-variants as step
+use Rattle.found.specs.declared.Found.{Found}
+
+-- the information string of a TLV that the walk passes has the length that its header says
+pub body-length : (s : List ℕ) (start len : ℕ) → start + len ≤ length s → length (take len (drop start s)) ≡ len
+body-length s start len h = length-take-le len (drop start s) (omega (arith, length-drop start s))
+
+within : (b : List ℕ) (f : Field) → Fits b f → Within f (length b)
+within b Skipped h = h
+within b Malformed h = h
+within b (Says topic skip) h = (h .known, h .inside)
+
+module _ (s : List ℕ) (at : ℕ) (f : Found) where
+  pub gather-refused : {n : ℕ} → stepOf (headOf (drop at s)) at ≡ step.Refused n → gather f (walk (drop at s) 0 at .tlvs) ≡ f
+  unfolding gather
+  gather-refused e = ap (λ (w : Walked). gather f (w .tlvs)) (walk-refused s at e)
+
+  pub gather-end : {end : ℕ} → stepOf (headOf (drop at s)) at ≡ step.End end → gather f (walk (drop at s) 0 at .tlvs) ≡ f
+  unfolding gather
+  gather-end e = ap (λ (w : Walked). gather f (w .tlvs)) (walk-end s at e)
+
+  module _ {kind start len : ℕ} (e : stepOf (headOf (drop at s)) at ≡ step.Next kind start len) where
+    pub gather-next : gather f (walk (drop at s) 0 at .tlvs)
+        ≡ gather (noted f (fieldOf kind (take len (drop start s))) start len) (walk (drop (start + len) s) 0 (start + len) .tlvs)
+    unfolding gather
+    gather-next =
+        ap (λ (w : Walked). gather f (w .tlvs)) (walk-next s at e)
+        ∙ ap (λ (n : ℕ). gather (noted f (fieldOf kind (take len (drop start s))) start n) (walk (drop (start + len) s) 0 (start + len) .tlvs))
+        (body-length s start len (next-fits s at e))
+
+    pub next-within : Within (fieldOf kind (take len (drop start s))) len
+    next-within =
+        let b = take len (drop start s) in
+        rw (body-length s start len (next-fits s at e)) at (within b (fieldOf kind b) (field-fits b kind))

@@ -1,0 +1,57 @@
+-- `found::is_htip` meets its contract: five tests, front to back.
+-- Each return cites the tests that led to it.
+use mathlib.Core.Path.{sym}
+use native.Mathlib.Omega.{arith}
+use borrow.Author.Tests.{eq-eqb, ne-eqb, le-leb, lt-leb}
+use borrow.Author.Needs.{needs}
+use Rattle.tally.proofs.TestsLaws.{both-end}
+use Rattle.fields.specs.Field.{category}
+use Rattle.found.specs.Found.{markOf, htipIn}
+use Rattle.found.proofs.is_htip.Statement.{statement}
+use Rattle.found.proofs.is_htip.Tie as tie
+
+returns : tie.Need-returns
+unfolding htipIn
+returns c = rw (c .if1 .taken)
+
+element-copy-out-category : tie.Need-element-copy-out-category
+element-copy-out-category c = search needs
+
+returns-2 : tie.Need-returns-2
+unfolding htipIn
+returns-2 c = rw (c .before .before .before .if1 .left, ne-eqb (markOf category (c .before .before .before .before .args .t1) .times) 1 (λ e. omega arith))
+
+element-copy-out-number : tie.Need-element-copy-out-number
+element-copy-out-number c = search needs
+
+returns-3 : tie.Need-returns-3
+unfolding htipIn
+returns-3 c = rw (c .before .before .before .before .before .before .if1 .left, eq-eqb (markOf category (c .before .before .before .before .before .before .before .args .t1) .times) 1 (omega arith), ne-eqb _ _ (c .if3 .taken))
+
+element-copy-out-manufacturer : tie.Need-element-copy-out-manufacturer
+element-copy-out-manufacturer c = search needs
+
+returns-4 : tie.Need-returns-4
+unfolding htipIn
+returns-4 c = rw (c .before .before .before .before .before .before .before .before .before .if1 .left, eq-eqb (markOf category (c .before .before .before .before .before .before .before .before .before .before .args .t1) .times) 1 (omega arith), eq-eqb _ _ (c .before .before .before .if3 .left), lt-leb _ _ (c .if4 .taken))
+
+element-copy-out-model : tie.Need-element-copy-out-model
+element-copy-out-model c = search needs
+
+returns-5 : tie.Need-returns-5
+unfolding htipIn
+returns-5 c = rw (c .before .before .before .before .before .before .before .before .before .before .before .if1 .left, eq-eqb (markOf category (c .before .before .before .before .before .before .before .before .before .before .before .before .args .t1) .times) 1 (omega arith), eq-eqb _ _ (c .before .before .before .before .before .if3 .left), le-leb _ _ (c .before .before .if4 .left)) (sym (both-end _))
+
+pub is-htip-spec : {M : Type 1} → statement M
+is-htip-spec =
+    tie.close
+    (tie.spec
+    returns
+    element-copy-out-category
+    returns-2
+    element-copy-out-number
+    returns-3
+    element-copy-out-manufacturer
+    returns-4
+    element-copy-out-model
+    returns-5)

@@ -1,0 +1,52 @@
+// The calls that take records away: Start (N6), seconds passed (N8), link lost (N9). They answer done, or a refusal.
+// Start judges the buffer's length alone: the table that is handed in need not be fit.
+ghost use mathlib.Core.Path.{_≡_};
+ghost use Rattle.place.specs.State.{state};
+ghost use Rattle.freeing.specs.Calls.{refused, Does, started, refusalAtStart};
+
+mod change;
+
+pub use change::link_lost;
+pub use change::seconds_passed;
+use fitness::UNFIT;
+use numbers::PLACES;
+use numbers::Table;
+use place::OCTETS;
+use whole::clear;
+
+pub enum Answer {
+    Done,
+    Refused(u8),
+}
+
+pub struct Outcome {
+    pub table: Table,
+    pub answer: Answer,
+}
+
+// A refusal returns its number, and the table as it was (R12).
+pub(crate) fn refuse(t: Table, n: u8) -> Outcome
+    ensures { λ r. ⌜ r ≡ refused t n ⌝ }
+{
+    Outcome {
+        table: t,
+        answer: Answer::Refused(n),
+    }
+}
+
+pub fn start(t: Table, buffer: &mut [u8]) -> Outcome
+    ensures { λ r. ⌜ Does r (now (buffer .exit)) (started (state t (now (buffer .entry)))) (refusalAtStart (state t (now (buffer .entry)))) ⌝ }
+{
+    if buffer.len() != OCTETS {
+        return refuse(t, UNFIT);
+    }
+    clear(buffer);
+    Outcome {
+        table: Table {
+            port: [0; PLACES],
+            seconds: [0; PLACES],
+            length: [0; PLACES],
+        },
+        answer: Answer::Done,
+    }
+}

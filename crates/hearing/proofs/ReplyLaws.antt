@@ -1,0 +1,183 @@
+-- Laws of a frame on a port: what each return tells, what the outline of a frame says of its LLDPDU, and the refusal number.
+-- The table's own counts are those of the rules (room-share), so the shares decide as the rules say.
+use Prim.Native.Nat.{ℕ, _≤_, _<_}
+use mathlib.Core.Path.{_≡_, refl, sym, ap, _∙_}
+use mathlib.Core.List.{List}
+use mathlib.Core.Logic.{_≢_}
+use mathlib.Core.Bool.{Bool, true, false, not}
+use native.Mathlib.Omega.{arith}
+use borrow.Author.Tests.{eqb-true, eq-eqb, ne-eqb, ltb-true, lt-ltb, le-ltb}
+use lib.ListN.{length, take, drop, length-take, length-drop}
+use lib.Dec.{eqb, ltb}
+use Rattle.tally.specs.Tests.{pick, both}
+use Rattle.tally.proofs.TestsLaws.{not-below, below-or-at}
+use Rattle.lldpdu.specs.Extent.{extentOf}
+use Rattle.lldpdu.specs.Outline.{textOf, refusedOutline, outlineOf}
+use Rattle.walk.specs.declared.Extent.{Extent}
+use Rattle.walk.specs.declared.Extent.the-variants as extent-is
+use Rattle.lldpdu.specs.declared.outline.Outline.{Outline}
+use Rattle.lldpdu.proofs.ExtentLaws.{not-both, good}
+use Rattle.lldpdu.proofs.Stable.{sized}
+use Rattle.reader.specs.Frame.{frameOk, onFrame}
+use Rattle.reader.proofs.FrameLaws.{frame-size, on-good, on-bad}
+use Rattle.rules.specs.Identity.{Ident}
+use Rattle.rules.specs.Events.{Said, Heard, unread, says, whose}
+use Rattle.rules.specs.Shares.{sure, most, beyond, share, room}
+use Rattle.rules.specs.Answers.{refusalIn}
+use Rattle.rules.specs.declared.Room.{Room}
+use Rattle.rules.specs.declared.Room.the-variants.{Enough, Full, Taken}
+use Rattle.rules.specs.declared.Reply.{Reply}
+use Rattle.rules.specs.declared.Reply.the-variants.{Refreshed, Gone, UnknownGoodbye, Refused}
+use Rattle.numbers.specs.Sizes.{ports, places, common}
+use Rattle.numbers.specs.Numbers.{holds}
+use Rattle.numbers.specs.declared.Table.{Table}
+use Rattle.place.specs.State.{State, size, state, at, put, free, keep, ident, said, find, number}
+use Rattle.fitness.specs.Fit.{fit}
+use Rattle.fitness.specs.Refusals.{firstDue}
+use Rattle.hearing.specs.Frame.{heardOf, heardIn, Told, reception, told, telling, heardAt, onRoom, heardNew, heardSaying, onHeard, heard, readRefusals, refusalOnFrame, Hears}
+use Rattle.hearing.specs.declared.Reception.{Reception}
+use Rattle.place.proofs.WhoseLaws.{outline-ident}
+use Rattle.fitness.proofs.FitLaws.{fit-parts}
+use Rattle.fitness.proofs.KeepLaws.{outline-extent, kept-outline}
+
+-- What each return tells
+
+pub tells : {o : Reception} {t : Table} {a : Reply} {b : List ℕ} {s : State} → o ≡ reception t a → state t b ≡ s → told o b ≡ telling a s
+tells {a = a} {b = b} e d = ap (λ (x : Reception). told x b) e ∙ ap (telling a) d
+
+-- a known identity
+module _ (k p n : ℕ) (l : List ℕ) (s : State) where
+  pub at-gone : n ≡ 0 → telling Gone (put s k free) ≡ heardAt k p n l s
+  unfolding heardAt
+  at-gone e = rw (eq-eqb n 0 e)
+
+  pub at-kept : n ≢ 0 → telling Refreshed (put s k (keep p n l)) ≡ heardAt k p n l s
+  unfolding heardAt
+  at-kept u = rw (ne-eqb n 0 u)
+
+-- a new one, with the room that the table's own counts leave
+pub room-share : (s : State) (w : Ident) → room ports (number s) w ≡ share ports (holds (s .table)) (w .port)
+unfolding room number holds at
+room-share s w = refl
+
+module _ (p n : ℕ) (l : List ℕ) (s : State) where
+  abbrev w : Ident
+  w = whose p (said l)
+
+  pub new-goodbye : n ≡ 0 → telling UnknownGoodbye s ≡ heardNew p n w l s
+  unfolding heardNew
+  new-goodbye e = rw (eq-eqb n 0 e)
+
+  pub new-room : {r : Room} → n ≢ 0 → r ≡ share ports (holds (s .table)) p → {q : Room} → r ≡ q → onRoom q p n l s ≡ heardNew p n w l s
+  unfolding heardNew
+  new-room u e d = rw (ne-eqb n 0 u, room-share s w, sym e ∙ d)
+
+-- what the code has of an LLDPDU l, by its outline
+module _ (p : ℕ) (l : List ℕ) (s : State) {o : Outline} (e : o ≡ outlineOf l) where
+  -- i is its port ID, and k the place that the code found for them
+  module _ {i : List ℕ} (t : i ≡ textOf l (o .port)) {k : ℕ} (q : k ≡ find s (ident p (o .chassis) (o .subtype) i)) where
+    found : k ≡ find s (whose p (said l))
+    found = q ∙ ap (find s) (ap (ident p (o .chassis) (o .subtype)) t ∙ outline-ident p l e)
+
+    pub saying-known : k < places → heardAt k p (o .seconds) l s ≡ heardSaying p (said l) s
+    unfolding heardSaying said
+    saying-known h = rw (← found, lt-ltb k places h) (ap (λ (x : Outline). heardAt k p (x .seconds) l s) e)
+
+    pub saying-new : places ≤ k → heardNew p (o .seconds) (whose p (said l)) l s ≡ heardSaying p (said l) s
+    unfolding heardSaying said
+    saying-new h = rw (← found, le-ltb k places h) (ap (λ (x : Outline). heardNew p (x .seconds) (whose p (said l)) l s) e)
+
+-- The LLDPDU of a frame, by the outline that the reader gives
+
+module _ (f : List ℕ) {o : Outline} (i : o ≡ onFrame (refusedOutline 3) outlineOf f) where
+  heard-in : {x : Extent} → o .extent ≡ x → heardIn x (drop 14 f) ≡ heardOf f
+  unfolding heardOf
+  heard-in e = ap (λ (x : Extent). heardIn x (drop 14 f)) (sym e ∙ ap (λ (x : Outline). x .extent) i)
+
+  pub unread-tells : (p : ℕ) (s : State) {n : ℕ} → o .extent ≡ extent-is.Refused n → telling (Refused n) s ≡ onHeard (heardOf f) p s
+  unread-tells p s e = ap (λ (x : Heard). onHeard x p s) (heard-in e)
+
+  module _ {e : ℕ} (v : o .extent ≡ extent-is.Octets e) where
+    framed : frameOk f ≡ true
+    framed = go (frameOk f) refl
+      where
+        go : (b : Bool) → frameOk f ≡ b → b ≡ true
+        go true q = refl
+        go false q = not-both (ap (λ (x : Outline). x .extent) (sym (i ∙ on-bad (refusedOutline 3) outlineOf f q)) ∙ v)
+
+    from-rest : o ≡ outlineOf (drop 14 f)
+    from-rest = i ∙ on-good (refusedOutline 3) outlineOf f framed
+
+    rest-extent : extentOf (drop 14 f) ≡ extent-is.Octets e
+    rest-extent = sym (outline-extent (drop 14 f)) ∙ ap (λ (x : Outline). x .extent) (sym from-rest) ∙ v
+
+    -- l is the LLDPDU as the code has cut it out
+    module _ {l : List ℕ} (t : l ≡ take e (drop 14 f)) where
+      pub frame-short : length l ≤ size
+      frame-short =
+          let z = sized (good (drop 14 f) e rest-extent) .whole-inside in
+          let h = frame-size f framed in
+          rw t (omega (arith, length-take e (drop 14 f), length-drop 14 f))
+
+      pub same-outline : o ≡ outlineOf l
+      same-outline = from-rest ∙ sym (kept-outline (drop 14 f) e rest-extent) ∙ ap outlineOf (sym t)
+
+      pub saying-tells : (p : ℕ) (s : State) → heardSaying p (said l) s ≡ onHeard (heardOf f) p s
+      saying-tells p s = ap (λ (x : List ℕ). heardSaying p (said x) s) t ∙ ap (λ (x : Heard). onHeard x p s) (heard-in v)
+
+-- The call
+
+module _ (p : ℕ) (f : List ℕ) (s : State) where
+  pub heard-unfit : fit s ≡ false → telling (Refused 1) s ≡ heard p f s
+  unfolding heard
+  heard-unfit e = rw e
+
+  pub heard-port : fit s ≡ true → ports ≤ p → telling (Refused 2) s ≡ heard p f s
+  unfolding heard
+  heard-port e l = rw (e, le-ltb p ports l)
+
+  pub heard-by : fit s ≡ true → p < ports → onHeard (heardOf f) p s ≡ heard p f s
+  unfolding heard
+  heard-by e l = rw (e, lt-ltb p ports l)
+
+-- The refusal number
+
+module _ (s : State) (p : ℕ) (f : fit s ≡ true) (l : p < ports) where
+  said-number : (a : Said) → refusalIn (heardSaying p a s .outcome .reply) ≡ firstDue (readRefusals (says a) p s)
+  unfolding heardSaying heardAt heardNew share
+  said-number a =
+      let h = holds (s .table) p in
+      rw (room-share s (whose p a), not-below (find s (whose p a)) places, not-below h sure, below-or-at h most (fit-parts s f .six p l))
+      (go (ltb (find s (whose p a)) places) (eqb (a .seconds) 0) (ltb h sure) (eqb h most) (eqb (beyond ports (holds (s .table))) common) (λ e. ne-eqb h most (omega (arith, ltb-true h sure e))))
+    where
+      go : (known goodbye few full taken : Bool) → (few ≡ true → full ≡ false)
+          → refusalIn (pick known (pick goodbye (telling Gone (put s (find s (whose p a)) free)) (telling Refreshed (put s (find s (whose p a)) (keep p (a .seconds) (a .octets)))))
+          (pick goodbye (telling UnknownGoodbye s) (onRoom (pick few Enough (pick full Full (pick taken Taken Enough))) p (a .seconds) (a .octets) s)) .outcome .reply)
+          ≡ pick (both (both (not goodbye) (not known)) full) 7 (pick (both (both (not goodbye) (not known)) (both (not few) (both (not full) (both taken true)))) 8 0)
+      go true true few full taken e = refl
+      go true false few full taken e = refl
+      go false true few full taken e = refl
+      go false false true true taken e = let z : _≡_ {A = Bool} true false = e refl in cc
+      go false false true false taken e = refl
+      go false false false true taken e = refl
+      go false false false false true e = refl
+      go false false false false false e = refl
+
+  heard-number : (x : Heard) → refusalIn (onHeard x p s .outcome .reply) ≡ firstDue (readRefusals x p s)
+  heard-number (unread k) = go (eqb k 0) refl
+    where
+      go : (b : Bool) → eqb k 0 ≡ b → k ≡ pick (not b) k 0
+      go true e = eqb-true k 0 e
+      go false e = refl
+  heard-number (says a) = said-number a
+
+pub hears-exactly : (p : ℕ) (f : List ℕ) (s : State) {o : Reception} {b : List ℕ} → told o b ≡ heard p f s → Hears p f s o b
+unfolding heard refusalOnFrame
+hears-exactly p f s e = record { exact = e; number = ap (λ (x : Told). refusalIn (x .outcome .reply)) e ∙ rw (not-below p ports) (go (fit s) refl (ltb p ports) refl) }
+  where
+    go : (b : Bool) → fit s ≡ b → (d : Bool) → ltb p ports ≡ d
+        → refusalIn (pick b (pick d (onHeard (heardOf f) p s) (telling (Refused 2) s)) (telling (Refused 1) s) .outcome .reply)
+        ≡ pick (not b) 1 (pick (not d) 2 (firstDue (readRefusals (heardOf f) p s)))
+    go true q true r = heard-number s p q (ltb-true p ports r) (heardOf f)
+    go true q false r = refl
+    go false q d r = refl

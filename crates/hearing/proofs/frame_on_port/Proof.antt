@@ -1,0 +1,73 @@
+-- `hearing::frame_on_port` meets its contract: 1 for a table that is not fit, then 2 for a port that there is not, else the frame decides.
+-- Each return is one law of the call (heard-unfit, heard-port, heard-by).
+use mathlib.Core.Path.{refl, sym, _∙_}
+use borrow.Author.Needs.{needs}
+use Rattle.place.specs.State.{state}
+use Rattle.hearing.proofs.ReplyLaws.{tells, heard-unfit, heard-port, heard-by, hears-exactly}
+use Rattle.hearing.proofs.frame_on_port.Statement.{statement}
+use Rattle.hearing.proofs.frame_on_port.Tie as tie
+
+is-fit-requires : tie.Need-is-fit-requires
+is-fit-requires c κs = search needs
+
+cast-hear-frame : tie.Need-cast-hear-frame
+cast-hear-frame c = search needs
+
+hear-frame-requires : tie.Need-hear-frame-requires
+hear-frame-requires c κs =
+    let two = c .before in
+    (sym (two .before .before .is-fit .ensures) ∙ two .before .if1 .taken, two .if2 .taken)
+
+same-length : tie.Need-same-length
+same-length c = search needs
+
+returns : tie.Need-returns
+returns c =
+    let h = c .before .before in
+    let two = h .before .before in
+    let fit = two .before .before in
+    let a = fit .before .before .before .before .args in
+    let s = state (a .t) (a .buffer .now) in
+    hears-exactly (a .port) (a .frame .now) s (h .hear-frame .ensures ∙ heard-by (a .port) (a .frame .now) s (sym (fit .is-fit .ensures) ∙ two .before .if1 .taken) (two .if2 .taken))
+
+reply-with-requires : tie.Need-reply-with-requires
+reply-with-requires c κs = search needs
+
+same-length-2 : tie.Need-same-length-2
+same-length-2 c = search needs
+
+returns-2 : tie.Need-returns-2
+returns-2 c =
+    let one = c .before .before in
+    let a = one .before .before .before .before .before .args in
+    let s = state (a .t) (a .buffer .now) in
+    hears-exactly (a .port) (a .frame .now) s (tells (c .reply-with .ensures) refl ∙ heard-port (a .port) (a .frame .now) s (sym (one .before .is-fit .ensures) ∙ one .if1 .taken) (c .before .if2 .left))
+
+reply-with-requires-2 : tie.Need-reply-with-requires-2
+reply-with-requires-2 c κs = search needs
+
+same-length-3 : tie.Need-same-length-3
+same-length-3 c = search needs
+
+returns-3 : tie.Need-returns-3
+returns-3 c =
+    let fit = c .before .before in
+    let a = fit .before .before .before .before .args in
+    let s = state (a .t) (a .buffer .now) in
+    hears-exactly (a .port) (a .frame .now) s (tells (c .reply-with2 .ensures) refl ∙ heard-unfit (a .port) (a .frame .now) s (sym (fit .is-fit .ensures) ∙ c .before .if1 .left))
+
+pub frame-on-port-spec : {M : Type 1} → statement M
+frame-on-port-spec =
+    tie.close
+    (tie.spec
+    is-fit-requires
+    cast-hear-frame
+    hear-frame-requires
+    same-length
+    returns
+    reply-with-requires
+    same-length-2
+    returns-2
+    reply-with-requires-2
+    same-length-3
+    returns-3)

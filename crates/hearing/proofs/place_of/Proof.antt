@@ -1,0 +1,61 @@
+-- `hearing::place_of` meets its contract: what is left to search gives the answer of the whole.
+-- A hit ends the search, a miss goes on (first-hit, first-miss, first-end).
+use Prim.Native.Nat.{_-_, _≤_}
+use mathlib.Core.Path.{_≡_, refl, sym, _∙_}
+use native.Mathlib.Omega.{arith}
+use borrow.Author.Needs.{needs}
+use Rattle.tally.specs.Counts.{firstFrom}
+use Rattle.tally.proofs.CountsLaws.{first-hit, first-miss, first-end}
+use Rattle.numbers.specs.Sizes.{places}
+use Rattle.place.specs.State.{state, ident, isOf, find}
+use Rattle.hearing.proofs.place_of.Statement.{statement}
+use Rattle.hearing.proofs.place_of.Tie as tie
+
+abbrev Inv-loop : tie.InvT-loop
+Inv-loop t buffer p chassis subtype id i₀ i =
+    (i ≤ places) × (find (state t buffer) (ident p chassis subtype id) ≡ firstFrom (isOf (state t buffer) (ident p chassis subtype id)) i (places - i))
+
+abbrev μ-loop : tie.MeasureT-loop
+μ-loop t buffer p chassis subtype id i₀ i = places - i
+
+loop-holds : tie.Need-loop-holds Inv-loop μ-loop
+unfolding find
+loop-holds c = (search needs, refl)
+
+is-of-requires : tie.Need-is-of-requires Inv-loop μ-loop
+is-of-requires c κs = search needs
+
+returns : tie.Need-returns Inv-loop μ-loop
+returns c =
+    let l = c .before .before .before .loop in
+    sym (l .inv .1 ∙ first-hit _ (l .i) places (search needs) (sym (c .before .is-of .ensures) ∙ c .if1 .taken))
+
+add-i : tie.Need-add-i Inv-loop μ-loop
+add-i c = search needs
+
+loop-less : tie.Need-loop-less Inv-loop μ-loop
+loop-less c = search needs
+
+loop-again : tie.Need-loop-again Inv-loop μ-loop
+loop-again c =
+    let l = c .before .before .before .loop in
+    (search needs, l .inv .1 ∙ first-miss _ (l .i) places (search needs) (sym (c .before .is-of .ensures) ∙ c .if1 .left))
+
+returns-2 : tie.Need-returns-2 Inv-loop μ-loop
+returns-2 c =
+    let l = c .before .loop in
+    sym (l .inv .1 ∙ first-end _ (l .i) places (omega arith))
+
+pub place-of-spec : {M : Type 1} → statement M
+place-of-spec =
+    tie.close
+    (tie.spec
+    Inv-loop
+    μ-loop
+    loop-holds
+    is-of-requires
+    returns
+    add-i
+    loop-less
+    loop-again
+    returns-2)

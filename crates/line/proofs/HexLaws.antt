@@ -1,0 +1,40 @@
+-- Laws of octets in hex: one octet in front of others, no octet at all, and some.
+-- They are what the loops over octets cite beside puts-next and puts-done of the output.
+use Prim.Native.Nat.{ℕ}
+use mathlib.Core.Path.{_≡_, refl}
+use mathlib.Core.List.{List, [], _∷_, _++_}
+use native.Mathlib.Omega.{arith}
+use lib.ListN.{length, drop, getD}
+use Rattle.line.specs.Hex.{hexOf, hexes, spelled, dashed, joined}
+
+pub hexes-step : (b : ℕ) (x : List ℕ) → hexes (b ∷ x) ≡ hexOf b ++ hexes x
+unfolding hexes
+hexes-step b x = refl
+
+pub hexes-end : hexes [] ≡ []
+unfolding hexes
+hexes-end = refl
+
+pub dashed-step : (b : ℕ) (x : List ℕ) → dashed (b ∷ x) ≡ (45 ∷ hexOf b) ++ dashed x
+unfolding dashed
+dashed-step b x = refl
+
+pub dashed-end : dashed [] ≡ []
+unfolding dashed
+dashed-end = refl
+
+pub spelled-none : (x : List ℕ) → length x ≡ 0 → (46 ∷ []) ≡ spelled x
+spelled-none [] e = refl
+spelled-none (b ∷ x) e = absurd (omega arith)
+
+pub spelled-some : (x : List ℕ) → (length x ≡ 0 → ⊥) → hexes x ≡ spelled x
+spelled-some [] h = absurd (h refl)
+spelled-some (b ∷ x) h = refl
+
+pub joined-none : (x : List ℕ) → length x ≡ 0 → [] ≡ joined x
+joined-none [] e = refl
+joined-none (b ∷ x) e = absurd (omega arith)
+
+pub joined-some : (x : List ℕ) → (length x ≡ 0 → ⊥) → hexOf (getD x 0 0) ++ dashed (drop 1 x) ≡ joined x
+joined-some [] h = absurd (h refl)
+joined-some (b ∷ x) h = refl

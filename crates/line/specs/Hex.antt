@@ -1,0 +1,31 @@
+-- Octets as they are printed (P2): two capital hex digits each, in ASCII.
+-- An address and a port ID are joined by `-`; the stored answers spell octets without it.
+use Prim.Native.Nat.{ℕ, _+_, _/_, _%_}
+use mathlib.Core.List.{List, [], _∷_, _++_}
+use lib.Dec.{ltb}
+use Rattle.tally.specs.Tests.{pick}
+
+-- 0 to 9, then A to F
+abbrev pub digitOf : ℕ → ℕ
+digitOf n = pick (ltb n 10) (48 + n) (55 + n)
+
+abbrev pub hexOf : ℕ → List ℕ
+hexOf b = digitOf (b / 16) ∷ digitOf (b % 16) ∷ []
+
+unfoldable pub hexes : List ℕ → List ℕ
+hexes [] = []
+hexes (b ∷ x) = hexOf b ++ hexes x
+
+-- for the stored answers of the tests: a full stop where there are none
+abbrev pub spelled : List ℕ → List ℕ
+spelled [] = 46 ∷ []
+spelled (b ∷ x) = hexes (b ∷ x)
+
+-- each behind a `-`
+unfoldable pub dashed : List ℕ → List ℕ
+dashed [] = []
+dashed (b ∷ x) = 45 ∷ (hexOf b ++ dashed x)
+
+abbrev pub joined : List ℕ → List ℕ
+joined [] = []
+joined (b ∷ x) = hexOf b ++ dashed x

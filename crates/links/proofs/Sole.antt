@@ -1,0 +1,14 @@
+-- For each public function of this crate: two answers that its contract allows are one.
+-- The contracts are the toolchain's own reading of the source (`Post` of each `Reads`).
+use mathlib.Core.Path.{sym, _∙_}
+use Rattle.tally.proofs.Sole.{Sole}
+use Rattle.links.proofs.link_fits.Kinds as link-fits-kinds
+use Rattle.links.proofs.link_fits.Reads as link-fits
+use Rattle.links.proofs.names.Kinds as names-kinds
+use Rattle.links.proofs.names.Reads as names
+
+pub link-fits-sole : Sole 1 link-fits-kinds.ps link-fits-kinds.r link-fits.Post
+link-fits-sole κs a r q x y e f = e ∙ sym f
+
+pub names-sole : Sole 1 names-kinds.ps names-kinds.r names.Post
+names-sole κs a r q x y e f = e ∙ sym f

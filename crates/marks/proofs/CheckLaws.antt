@@ -1,0 +1,130 @@
+-- Laws of a place by itself, as the fitness test asks it: each return of the code is one line here.
+-- Whether an LLDPDU is whole is asked of its outline, extent first (N5 b, c).
+use Prim.Native.Nat.{ℕ, _-_, _≤_, _<_}
+use mathlib.Core.Path.{_≡_, refl, sym, ap, _∙_}
+use mathlib.Core.Logic.{_≢_}
+use mathlib.Core.Bool.{Bool, true, false}
+use mathlib.Core.List.{List}
+use native.Mathlib.Omega.{arith}
+use borrow.Author.Tests.{eq-eqb, ne-eqb, le-leb, lt-leb, lt-ltb, le-ltb}
+use lib.ListN.{length, getD, take, drop}
+use lib.Dec.{leb}
+use Rattle.tally.specs.Tests.{both}
+use Rattle.octets.specs.Numbers.{pairOf}
+use Rattle.whole.specs.Whole.{zeros}
+use Rattle.lldpdu.specs.Outline.{textOf, outlineOf}
+use Rattle.walk.specs.declared.Extent.{Extent}
+use Rattle.walk.specs.declared.Extent.the-variants.{Refused, Octets}
+use Rattle.lldpdu.specs.declared.outline.Outline.{Outline}
+use Rattle.numbers.specs.Sizes.{ports}
+use Rattle.place.proofs.WhoseLaws.{outline-ident}
+use Rattle.place.specs.State.{Place, size, ident}
+use Rattle.marks.specs.PlaceFit.{exactly, whole, okFree, okUsed, okPlace}
+use Rattle.marks.specs.Marks.{lastTwo, markOf, check, checkFree, checkUsed, checkPlace}
+use Rattle.marks.specs.declared.Check.{Check}
+use Rattle.marks.specs.declared.Check.the-variants.{Unfit, Mark}
+
+-- The last two octets, and the mark
+
+pub last-few : (l : List ℕ) → length l < 2 → getD l 0 0 ≡ lastTwo l
+unfolding lastTwo
+last-few l h = sym (rw (lt-ltb (length l) 2 h))
+
+pub last-more : (l : List ℕ) → 2 ≤ length l → pairOf (getD l (length l - 2) 0) (getD l (length l - 1) 0) ≡ lastTwo l
+unfolding lastTwo
+last-more l h = sym (rw (le-ltb (length l) 2 h))
+
+-- A free place (N5 b)
+
+module _ (p left : ℕ) (b : List ℕ) where
+  pub free-port : p ≢ 0 → Unfit ≡ checkFree p left b
+  unfolding checkFree
+  free-port h = sym (rw (ne-eqb p 0 h))
+
+  module _ (h : p ≡ 0) where
+    pub free-seconds : left ≢ 0 → Unfit ≡ checkFree p left b
+    unfolding checkFree
+    free-seconds k = sym (rw (eq-eqb p 0 h, ne-eqb left 0 k))
+
+    module _ (k : left ≡ 0) where
+      pub free-octets : zeros b ≡ false → Unfit ≡ checkFree p left b
+      unfolding checkFree
+      free-octets z = sym (rw (eq-eqb p 0 h, eq-eqb left 0 k, z))
+
+      pub free-fit : zeros b ≡ true → Mark 0 ≡ checkFree p left b
+      unfolding checkFree
+      free-fit z = sym (rw (eq-eqb p 0 h, eq-eqb left 0 k, z))
+
+-- A used place (N5 c)
+
+module _ (p left : ℕ) (l rest : List ℕ) {o : Outline} (e : o ≡ outlineOf l) where
+  whole-by : (x : Extent) → o .extent ≡ x → whole l left ≡ both (exactly x (length l)) (both (leb 1 left) (both (leb left (o .seconds)) true))
+  unfolding whole
+  whole-by x q =
+      ap (λ (u : Outline). both (exactly (u .extent) (length l)) (both (leb 1 left) (both (leb left (u .seconds)) true))) (sym e)
+      ∙ ap (λ (u : Extent). both (exactly u (length l)) (both (leb 1 left) (both (leb left (o .seconds)) true))) q
+
+  unfit : whole l left ≡ false → Unfit ≡ checkUsed p left l rest
+  unfolding checkUsed
+  unfit h = sym (rw h)
+
+  pub used-refused : {n : ℕ} → o .extent ≡ Refused n → Unfit ≡ checkUsed p left l rest
+  used-refused {n} q = unfit (whole-by (Refused n) q)
+
+  module _ {n : ℕ} (q : o .extent ≡ Octets n) where
+    pub used-other : n ≢ length l → Unfit ≡ checkUsed p left l rest
+    used-other h = unfit (whole-by (Octets n) q ∙ rw (ne-eqb n (length l) h))
+
+    module _ (h : n ≡ length l) where
+      pub used-over : left < 1 → Unfit ≡ checkUsed p left l rest
+      used-over k = unfit (whole-by (Octets n) q ∙ rw (eq-eqb n (length l) h, lt-leb 1 left k))
+
+      module _ (k : 1 ≤ left) where
+        pub used-late : o .seconds < left → Unfit ≡ checkUsed p left l rest
+        used-late m = unfit (whole-by (Octets n) q ∙ rw (eq-eqb n (length l) h, le-leb 1 left k, lt-leb left (o .seconds) m))
+
+        module _ (m : left ≤ o .seconds) where
+          in-time : whole l left ≡ true
+          in-time = whole-by (Octets n) q ∙ rw (eq-eqb n (length l) h, le-leb 1 left k, le-leb left (o .seconds) m)
+
+          pub used-rest : zeros rest ≡ false → Unfit ≡ checkUsed p left l rest
+          unfolding checkUsed
+          used-rest z = sym (rw (in-time, z))
+
+          pub used-fit : {c : ℕ} → zeros rest ≡ true → c ≡ markOf (ident p (o .chassis) (o .subtype) (textOf l (o .port))) → Mark c ≡ checkUsed p left l rest
+          unfolding checkUsed
+          used-fit z w = ap Mark (w ∙ ap markOf (outline-ident p l e)) ∙ sym (rw (in-time, z))
+
+-- A place
+
+module _ (x : Place) where
+  pub place-free : x .len ≡ 0 → checkFree (x .port) (x .seconds) (x .body) ≡ checkPlace x
+  unfolding checkFree checkPlace okPlace okFree
+  place-free e = sym (rw (eq-eqb (x .len) 0 e))
+
+  module _ (u : x .len ≢ 0) where
+    pub place-port : ports ≤ x .port → Unfit ≡ checkPlace x
+    unfolding checkPlace okPlace okUsed
+    place-port h = sym (rw (ne-eqb (x .len) 0 u, le-ltb (x .port) ports h))
+
+    module _ (h : x .port < ports) where
+      pub place-long : size < x .len → Unfit ≡ checkPlace x
+      unfolding checkPlace okPlace okUsed
+      place-long k = sym (rw (ne-eqb (x .len) 0 u, lt-ltb (x .port) ports h, lt-leb (x .len) size k))
+
+      pub place-used : x .len ≤ size → checkUsed (x .port) (x .seconds) (take (x .len) (x .body)) (drop (x .len) (x .body)) ≡ checkPlace x
+      unfolding checkUsed checkPlace okPlace okUsed
+      place-used k = sym (rw (ne-eqb (x .len) 0 u, lt-ltb (x .port) ports h, le-leb (x .len) size k))
+
+-- a mark tells that the place is fit, and is its mark
+pub marked : (ok : Bool) (m n : ℕ) → Mark m ≡ check ok n → (ok ≡ true) × (m ≡ n)
+marked true m n e = (refl, ap markIn e)
+  where
+    markIn : Check → ℕ
+    markIn Unfit = 0
+    markIn (Mark k) = k
+marked false m n e = absurd (let z : _≡_ {A = ℕ} 0 1 = cc in omega arith)
+
+pub unmarked : (ok : Bool) (n : ℕ) → Unfit ≡ check ok n → ok ≡ false
+unmarked true n e = absurd (let z : _≡_ {A = ℕ} 0 1 = cc in omega arith)
+unmarked false n e = refl

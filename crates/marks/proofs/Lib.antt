@@ -1,0 +1,4 @@
+-- The laws of a place by itself and of the pass over all places.
+-- Each return of the code is one line of CheckLaws.
+pub mod CheckLaws
+pub mod MarkLaws

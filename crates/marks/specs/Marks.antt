@@ -1,0 +1,52 @@
+-- The marks of the fitness test: a number of each identity, so that most pairs of records are told apart by it alone.
+-- They are for speed; whether a table is fit does not depend on them (N5 d).
+use Prim.Native.Nat.{ℕ, _+_, _-_, _*_, _<_}
+use mathlib.Core.Path.{_≡_}
+use mathlib.Core.Bool.{Bool, true}
+use mathlib.Core.List.{List, [], _∷_}
+use lib.ListN.{length, getD}
+use lib.Dec.{ltb, eqb}
+use Rattle.tally.specs.Tests.{pick, all}
+use Rattle.tally.specs.Ranges.{allBelow}
+use Rattle.octets.specs.Numbers.{pairOf}
+use Rattle.whole.specs.Whole.{zeros}
+use Rattle.rules.specs.Identity.{Ident}
+use Rattle.rules.specs.Events.{whose}
+use Rattle.numbers.specs.Sizes.{places}
+use Rattle.place.specs.State.{Place, State, at, used, said, whoAt}
+use Rattle.marks.specs.PlaceFit.{whole, okPlace}
+use Rattle.marks.specs.declared.Check.{Check}
+use Rattle.marks.specs.declared.Check.the-variants.{Unfit, Mark}
+use Rattle.marks.specs.declared.Marks.{Marks}
+
+unfoldable pub lastTwo : List ℕ → ℕ
+lastTwo l = pick (ltb (length l) 2) (getD l 0 0) (pairOf (getD l (length l - 2) 0) (getD l (length l - 1) 0))
+
+unfoldable pub markOf : Ident → ℕ
+markOf w = pairOf (w .port) (getD (w .chassis) 5 0) * 65536 + lastTwo (w .portId)
+
+abbrev pub markAt : Place → ℕ
+markAt x = pick (used x) (markOf (whoAt x)) 0
+
+-- a mark where the place is fit by itself
+abbrev pub check : Bool → ℕ → Check
+check ok m = pick ok (Mark m) Unfit
+
+unfoldable pub checkFree : ℕ → ℕ → List ℕ → Check
+checkFree p left b = check (all (eqb p 0 ∷ eqb left 0 ∷ zeros b ∷ [])) 0
+
+unfoldable pub checkUsed : ℕ → ℕ → List ℕ → List ℕ → Check
+checkUsed p left l rest = check (all (whole l left ∷ zeros rest ∷ [])) (markOf (whose p (said l)))
+
+unfoldable pub checkPlace : Place → Check
+checkPlace x = check (okPlace x) (markAt x)
+
+-- each place has its mark
+pub record Marked (s : State) (marks : List ℕ) : Type 0 where
+  pub long : length marks ≡ places
+  pub right : (k : ℕ) → k < places → getD marks k 0 ≡ markAt (at s k)
+
+-- what the pass over all places gives
+pub record Checks (s : State) (m : Marks) : Type 0 where
+  pub told : m .fit ≡ allBelow (λ k. okPlace (at s k)) places
+  pub marked : m .fit ≡ true → Marked s (m .marks)

@@ -1,0 +1,138 @@
+// Each place by itself (N5 b, c): whether it is fit, and then its mark, by which most identities are told apart.
+// Each LLDPDU is walked once, for validity, seconds and mark together. A caller has a buffer of the right length.
+ghost use mathlib.Core.Path.{_≡_};
+ghost use Prim.Native.Nat.{_<_};
+ghost use lib.ListN.{length};
+ghost use Rattle.numbers.specs.Sizes.{places};
+ghost use Rattle.place.specs.State.{octets, at, state, ident};
+ghost use Rattle.marks.specs.Marks.{lastTwo, markOf, checkFree, checkUsed, checkPlace, Checks};
+use lldpdu::Extent;
+use lldpdu::outline_lldpdu;
+use lldpdu::text_of;
+use numbers::PLACES;
+use numbers::PORTS;
+use numbers::Table;
+use octets::octet;
+use octets::pair;
+use place::SIZE;
+use whole::all_zero;
+
+// What is found at a place that is looked at by itself: it is not fit, or its mark.
+enum Check {
+    Unfit,
+    Mark(u32),
+}
+
+// The marks of all places, where all of them are fit by themselves.
+pub struct Marks {
+    pub fit: bool,
+    pub marks: [u32; PLACES],
+}
+
+fn last_two(id: &[u8]) -> u16
+    ensures { λ r. ⌜ r ≡ lastTwo (now (id .entry)) ⌝ }
+{
+    let n = id.len();
+    if n < 2 {
+        return octet(id, 0) as u16;
+    }
+    pair(octet(id, n - 2), octet(id, n - 1))
+}
+
+// The mark of an identity: unequal marks tell unequal identities, and cost one comparison of a number.
+// It takes the last octets, since the first ones of a chassis are its maker's.
+fn mark_of(p: u8, chassis: [u8; 6], subtype: u8, id: &[u8]) -> u32
+    ensures { λ r. ⌜ r ≡ markOf (ident p chassis subtype (now (id .entry))) ⌝ }
+{
+    pair(p, chassis[5]) as u32 * 65536 + last_two(id) as u32
+}
+
+// A free place has numbers 0 and octets 0 (N5 b).
+fn check_free(p: u8, left: u16, b: &[u8]) -> Check
+    ensures { λ r. ⌜ r ≡ checkFree p left (now (b .entry)) ⌝ }
+{
+    if p != 0 {
+        return Check::Unfit;
+    }
+    if left != 0 {
+        return Check::Unfit;
+    }
+    if all_zero(b) {
+        Check::Mark(0)
+    } else {
+        Check::Unfit
+    }
+}
+
+// A used place has a whole valid LLDPDU with time left, and zeros behind it (N5 c).
+fn check_used(p: u8, left: u16, l: &[u8], rest: &[u8]) -> Check
+    ensures { λ r. ⌜ r ≡ checkUsed p left (now (l .entry)) (now (rest .entry)) ⌝ }
+{
+    let o = outline_lldpdu(l);
+    let extent = o.extent;
+    match extent {
+        Extent::Refused(_) => Check::Unfit,
+        Extent::Octets(e) => {
+            if e != l.len() {
+                return Check::Unfit;
+            }
+            if left < 1 {
+                return Check::Unfit;
+            }
+            if left > o.seconds {
+                return Check::Unfit;
+            }
+            if all_zero(rest) {
+                let chassis = o.chassis;
+                Check::Mark(mark_of(p, chassis, o.subtype, text_of(l, o.port)))
+            } else {
+                Check::Unfit
+            }
+        }
+    }
+}
+
+fn check_place(t: Table, buffer: &[u8], i: usize) -> Check
+    requires { ⌜ (i < places) × (length (now buffer) ≡ octets) ⌝ }
+    ensures { λ r. ⌜ r ≡ checkPlace (at (state t (now (buffer .entry))) i) ⌝ }
+{
+    let from = i * SIZE;
+    let to = from + SIZE;
+    let b = &buffer[from..to];
+    let n = t.length[i] as usize;
+    let p = t.port[i];
+    if n == 0 {
+        return check_free(p, t.seconds[i], b);
+    }
+    if p as usize >= PORTS {
+        return Check::Unfit;
+    }
+    if n > SIZE {
+        return Check::Unfit;
+    }
+    check_used(p, t.seconds[i], &b[0..n], &b[n..])
+}
+
+pub fn marks_of(t: Table, buffer: &[u8]) -> Marks
+    requires { ⌜ length (now buffer) ≡ octets ⌝ }
+    ensures { λ r. ⌜ Checks (state t (now (buffer .entry))) r ⌝ }
+{
+    let mut marks = [0u32; PLACES];
+    for i in 0..PLACES {
+        match check_place(t, buffer, i) {
+            Check::Unfit => {
+                return Marks {
+                    fit: false,
+                    marks: marks,
+                };
+            }
+            Check::Mark(m) => {
+                marks[i] = m;
+            }
+        }
+    }
+    Marks {
+        fit: true,
+        marks: marks,
+    }
+}

@@ -1,0 +1,83 @@
+-- Laws of octets put into an output: one string behind another, one octet, one turn of a loop, and a whole that fits.
+-- A loop keeps one equation: what is left, put behind what was put, gives the output of the whole.
+use Prim.Native.Nat.{ℕ, suc, _+_, _<_, _≤_}
+use mathlib.Core.Path.{_≡_, refl, sym, ap, _∙_}
+use mathlib.Core.List.{List, [], _∷_, _++_}
+use native.Mathlib.Numerals.{add-one}
+use native.Mathlib.Omega.{arith}
+use borrow.Author.Tests.{lt-ltb, le-ltb}
+use lib.ListN.{length, set, take, drop, getD, length-set, drop-of-length-le, take-append-drop}
+use lib.Seq.{drop-cons, append-snoc, set-out, take-suc-set, drop-set-lt}
+use Rattle.output.specs.Output.{Output, outputAt, more, puts}
+
+pub puts-append : (x y : List ℕ) (o : Output) → puts (x ++ y) o ≡ puts y (puts x o)
+unfolding puts
+puts-append [] y o = refl
+puts-append (b ∷ x) y o = puts-append x y (more b o)
+
+-- one string, then another: p is the output behind the first, q behind both
+pub puts-then : (x y : List ℕ) (o : Output) {p q : Output} → p ≡ puts x o → q ≡ puts y p → q ≡ puts (x ++ y) o
+puts-then x y o e d = d ∙ ap (puts y) e ∙ sym (puts-append x y o)
+
+-- what was put is known under another name
+pub puts-same : {x y : List ℕ} (o : Output) {p : Output} → p ≡ puts x o → x ≡ y → p ≡ puts y o
+puts-same o e d = e ∙ ap (λ (z : List ℕ). puts z o) d
+
+pub puts-one : (b : ℕ) (o : Output) {p : Output} → p ≡ more b o → p ≡ puts (b ∷ []) o
+unfolding puts
+puts-one b o e = e
+
+-- with the octet that the code has in hand for d
+pub puts-octet : {b d : ℕ} (o : Output) {p : Output} → p ≡ more b o → b ≡ d → p ≡ puts (d ∷ []) o
+unfolding puts
+puts-octet o e h = e ∙ ap (λ (x : ℕ). more x o) h
+
+pub puts-none : (o : Output) → o ≡ puts [] o
+unfolding puts
+puts-none o = refl
+
+-- one octet, where there is room and where there is none
+pub more-room : (l : List ℕ) (at b : ℕ) → at < length l → outputAt (set l at b) (at + 1) ≡ more b (outputAt l at)
+unfolding more
+more-room l at b h = sym (rw (lt-ltb at (length l) h))
+
+pub more-full : (l : List ℕ) (at b : ℕ) → length l ≤ at → outputAt l at ≡ more b (outputAt l at)
+unfolding more
+more-full l at b h = sym (rw (le-ltb at (length l) h, set-out l at b h))
+
+-- A loop: each octet of s is put as f spells it
+
+module _ (f : List ℕ → List ℕ) (g : ℕ → List ℕ) (step : (b : ℕ) (x : List ℕ) → f (b ∷ x) ≡ g b ++ f x) (end : f [] ≡ []) (s : List ℕ) (whole : Output) where
+  pub puts-next : (i : ℕ) (o : Output) {p : Output} → i < length s → puts (f (drop i s)) o ≡ whole → p ≡ puts (g (getD s i 0)) o → puts (f (drop (i + 1) s)) p ≡ whole
+  puts-next i o h inv e =
+      let rest = drop (i + 1) s in
+      let d : drop i s ≡ getD s i 0 ∷ rest = drop-cons s i 0 h ∙ rw (add-one i) refl in
+      ap (puts (f rest)) e ∙ sym (puts-append (g (getD s i 0)) (f rest) o) ∙ ap (λ (x : List ℕ). puts x o) (sym (ap f d ∙ step (getD s i 0) rest)) ∙ inv
+
+  pub puts-done : (i : ℕ) (o : Output) → length s ≤ i → puts (f (drop i s)) o ≡ whole → o ≡ whole
+  unfolding puts
+  puts-done i o h inv = ap (λ (x : List ℕ). puts x o) (sym (ap f (drop-of-length-le s h) ∙ end)) ∙ inv
+
+-- each octet as it is
+pub as-it-is : (b : ℕ) (x : List ℕ) → (b ∷ x) ≡ (b ∷ []) ++ x
+as-it-is b x = refl
+
+-- A whole that fits
+
+pub puts-fits : (x l : List ℕ) (at : ℕ) → at + length x ≤ length l → puts x (outputAt l at) ≡ outputAt (take at l ++ (x ++ drop (at + length x) l)) (at + length x)
+unfolding puts
+puts-fits [] l at h =
+    let e : at + 0 ≡ at = omega arith in
+    rw e (ap (λ (k : List ℕ). outputAt k at) (sym (take-append-drop at l)))
+puts-fits (b ∷ x) l at h =
+    let j : at < length l = omega arith in
+    let n : at + 1 + length x ≡ at + suc (length x) = omega arith in
+    let k : at + 1 + length x ≤ length (set l at b) = omega (arith, length-set l at b) in
+    ap (puts x) (sym (more-room l at b j)) ∙ puts-fits x (set l at b) (at + 1) k ∙ shifted n
+  where
+    shifted : at + 1 + length x ≡ at + suc (length x)
+        → outputAt (take (at + 1) (set l at b) ++ (x ++ drop (at + 1 + length x) (set l at b))) (at + 1 + length x)
+        ≡ outputAt (take at l ++ (b ∷ (x ++ drop (at + suc (length x)) l))) (at + suc (length x))
+    shifted n =
+        rw (n, add-one at, take-suc-set l at b (omega arith), drop-set-lt (at + suc (length x)) l at b (omega arith))
+        (ap (λ (k : List ℕ). outputAt k (at + suc (length x))) (append-snoc (take at l) b (x ++ drop (at + suc (length x)) l)))

@@ -1,0 +1,39 @@
+-- When every part of a description lies inside the text that is lent with it, in a text of n octets (W7).
+-- An empty part must lie inside too; a part that begins at the end of the text does.
+use Prim.Native.Nat.{ℕ, _-_}
+use mathlib.Core.List.{List, [], _∷_}
+use mathlib.Core.Bool.{Bool, true}
+use lib.Dec.{leb}
+use Rattle.tally.specs.Tests.{both, all}
+use Rattle.lldpdu.specs.declared.outline.Part.{Part}
+use Rattle.reading.specs.declared.Link.{Link}
+use Rattle.reading.specs.declared.Link.the-variants as link-is
+use Rattle.reading.specs.declared.AddressList.{AddressList}
+use Rattle.reading.specs.declared.AddressList.the-variants as list-is
+use Rattle.reading.specs.declared.Description.{Description}
+
+abbrev pub partInside : ℕ → Part → Bool
+partInside n p = both (leb (p .start) n) (leb (p .len) (n - p .start))
+
+abbrev pub linkInside : ℕ → Link → Bool
+linkInside n link-is.Absent = true
+linkInside n (link-is.Table i p a) = all (partInside n i ∷ partInside n p ∷ partInside n a ∷ [])
+
+abbrev pub listInside : ℕ → AddressList → Bool
+listInside n list-is.Absent = true
+listInside n (list-is.Listed a) = partInside n a
+
+abbrev pub partRules : ℕ → Description → List Bool
+partRules n d =
+    partInside n (d .port)
+    ∷ partInside n (d .words)
+    ∷ partInside n (d .category)
+    ∷ partInside n (d .manufacturer)
+    ∷ partInside n (d .model)
+    ∷ partInside n (d .number)
+    ∷ linkInside n (d .link)
+    ∷ listInside n (d .list)
+    ∷ []
+
+unfoldable pub allInside : ℕ → Description → Bool
+allInside n d = all (partRules n d)

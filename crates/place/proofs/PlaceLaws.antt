@@ -1,0 +1,47 @@
+-- Laws of the table place by place: a place put back, a step at one place, every place in turn.
+-- They hold for any state, fit or not.
+use Prim.Native.Nat.{ℕ, _+_}
+use mathlib.Core.Path.{_≡_, refl, ap, sym, _∙_}
+use mathlib.Core.List.{List, _++_}
+use native.Mathlib.Numerals.{add-one}
+use lib.ListN.{set, take, drop, take-append-drop}
+use lib.Seq.{set-getD, drop-drop}
+use Rattle.place.specs.State.{Place, State, state, at, put, step, each}
+
+-- the octets of a place put back where they were
+body-back : (a n : ℕ) (l : List ℕ) → take a l ++ (take n (drop a l) ++ drop (a + n) l) ≡ l
+body-back a n l =
+    ap (λ (x : List ℕ). take a l ++ (take n (drop a l) ++ x)) (sym (drop-drop n a l))
+    ∙ ap (λ (x : List ℕ). take a l ++ x) (take-append-drop n (drop a l))
+    ∙ take-append-drop a l
+
+-- a place put back as it is, and with other seconds
+module _ (s : State) (k : ℕ) where
+  pub put-at : put s k (at s k) ≡ s
+  unfolding put at
+  put-at = simp (set-getD, body-back)
+
+  pub put-seconds : (v : ℕ) → state (record { port = s .table .port; seconds = set (s .table .seconds) k v; length = s .table .length }) (s .buf)
+      ≡ put s k (record { port = at s k .port; seconds = v; len = at s k .len; body = at s k .body })
+  unfolding put at
+  put-seconds v = simp (set-getD, body-back)
+
+-- a step, by what g makes of place k
+module _ (g : Place → Place) (k : ℕ) (s : State) where
+  pub step-stays : g (at s k) ≡ at s k → s ≡ step g k s
+  unfolding step
+  step-stays e = sym (ap (put s k) e ∙ put-at s k)
+
+  pub step-puts : {x : Place} {r : State} → r ≡ put s k x → g (at s k) ≡ x → r ≡ step g k s
+  unfolding step
+  step-puts e d = e ∙ sym (ap (put s k) d)
+
+-- every place in turn
+module _ (g : Place → Place) where
+  pub each-none : (s : State) → each g 0 s ≡ s
+  unfolding each
+  each-none s = refl
+
+  pub each-more : (i : ℕ) (s : State) {r t : State} → t ≡ step g i r → r ≡ each g i s → t ≡ each g (i + 1) s
+  unfolding each
+  each-more i s e d = e ∙ ap (step g i) d ∙ rw add-one

@@ -1,0 +1,76 @@
+-- `place::store` meets its contract: the numbers of the place are those of the record, and its octets come back filled (part-becomes).
+-- All else stays as it was.
+use Prim.Native.Nat.{_*_}
+use mathlib.Core.Path.{ap}
+use native.Mathlib.Omega.{arith}
+use borrow.Author.Needs.{needs}
+use Rattle.whole.specs.Whole.{filled}
+use Rattle.octets.proofs.PartLaws.{part-becomes}
+use Rattle.place.specs.State.{size, state, put, keep}
+use Rattle.place.proofs.store.Statement.{statement}
+use Rattle.place.proofs.store.Tie as tie
+
+element-write-u : tie.Need-element-write-u
+element-write-u c = search needs
+
+mul-u : tie.Need-mul-u
+mul-u c = search needs
+
+element-write-u-2 : tie.Need-element-write-u-2
+element-write-u-2 c = search needs
+
+cast-u : tie.Need-cast-u
+cast-u c = search needs
+
+mul-u-2 : tie.Need-mul-u-2
+mul-u-2 c = search needs
+
+element-write-u-3 : tie.Need-element-write-u-3
+element-write-u-3 c = search needs
+
+mul-from : tie.Need-mul-from
+mul-from c = search needs
+
+add-to : tie.Need-add-to
+add-to c = search needs
+
+sub-fill : tie.Need-sub-fill
+sub-fill c = search needs
+
+part-fill-start : tie.Need-part-fill-start
+part-fill-start c = search needs
+
+part-fill-end : tie.Need-part-fill-end
+part-fill-end c = search needs
+
+fill-requires : tie.Need-fill-requires
+fill-requires c κs = search needs
+
+same-length : tie.Need-same-length
+same-length c = search needs
+
+returns : tie.Need-returns
+unfolding put keep
+returns c =
+    let a = c .before .before .before .before .before .before .args in
+    let d = c .before .before .fill in
+    ap (state _) (part-becomes (a .buffer .now) (a .i * size) size (filled (a .l .now)) (d .last .0) (omega arith) (d .ensures))
+
+pub store-spec : {M : Type 1} → statement M
+store-spec =
+    tie.close
+    (tie.spec
+    element-write-u
+    mul-u
+    element-write-u-2
+    cast-u
+    mul-u-2
+    element-write-u-3
+    mul-from
+    add-to
+    sub-fill
+    part-fill-start
+    part-fill-end
+    fill-requires
+    same-length
+    returns)

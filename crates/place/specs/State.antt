@@ -1,0 +1,132 @@
+-- The table's state: the struct of numbers beside the octets of the buffer; seen place by place (N1).
+-- Every call is said by what it puts where; what is not named stays as it was.
+use Prim.Native.Nat.{ℕ, zero, suc, _+_, _*_}
+use mathlib.Core.Path.{_≡_}
+use mathlib.Core.Bool.{Bool, not}
+use mathlib.Core.List.{List, _++_}
+use lib.ListN.{length, getD, set, take, drop, replicate}
+use lib.Dec.{eqb}
+use Rattle.tally.specs.Tests.{both}
+use Rattle.tally.specs.Counts.{count, firstFrom}
+use Rattle.whole.specs.Whole.{filled}
+use Rattle.lldpdu.specs.Outline.{textOf, outlineOf}
+use Rattle.rules.specs.Identity.{Ident, same}
+use Rattle.rules.specs.Events.{Said, whose}
+use Rattle.numbers.specs.Sizes.{places}
+use Rattle.numbers.specs.declared.Table.{Table}
+
+abbrev pub size : ℕ
+size = 1500
+
+abbrev pub octets : ℕ
+octets = places * size
+
+pub record Place : Type 0 where
+  pub port : ℕ
+  pub seconds : ℕ
+  pub len : ℕ
+  pub body : List ℕ
+
+pub record State : Type 0 where
+  pub table : Table
+  pub buf : List ℕ
+
+abbrev pub state : Table → List ℕ → State
+state t b = record { table = t; buf = b }
+
+-- what place k holds
+unfoldable pub at : State → ℕ → Place
+at s k =
+    record {
+      port = getD (s .table .port) k 0;
+      seconds = getD (s .table .seconds) k 0;
+      len = getD (s .table .length) k 0;
+      body = take size (drop (k * size) (s .buf));
+    }
+
+-- place k holds p, all else as it was
+unfoldable pub put : State → ℕ → Place → State
+put s k p =
+    record {
+      table =
+          record {
+            port = set (s .table .port) k (p .port);
+            seconds = set (s .table .seconds) k (p .seconds);
+            length = set (s .table .length) k (p .len);
+          };
+      buf = take (k * size) (s .buf) ++ (p .body ++ drop (k * size + size) (s .buf));
+    }
+
+-- g at place k, and at each place below n
+unfoldable pub step : (Place → Place) → ℕ → State → State
+step g k s = put s k (g (at s k))
+
+unfoldable pub each : (Place → Place) → ℕ → State → State
+each g zero s = s
+each g (suc k) s = step g k (each g k s)
+
+-- A place
+
+-- N4
+abbrev pub used : Place → Bool
+used x = not (eqb (x .len) 0)
+
+abbrev pub free : Place
+free = record { port = 0; seconds = 0; len = 0; body = replicate size 0 }
+
+-- the LLDPDU that is kept (N3)
+abbrev pub lldpduAt : Place → List ℕ
+lldpduAt x = take (x .len) (x .body)
+
+-- an LLDPDU l that was heard on port p is kept, with seconds left (N3)
+unfoldable pub keep : ℕ → ℕ → List ℕ → Place
+keep p left l = record { port = p; seconds = left; len = length l; body = filled l size }
+
+-- Identity (N2), by what the reader says of an LLDPDU
+
+abbrev pub ident : ℕ → List ℕ → ℕ → List ℕ → Ident
+ident p c u i = record { port = p; chassis = c; subtype = u; portId = i }
+
+unfoldable pub said : List ℕ → Said
+said l =
+    record {
+      chassis = outlineOf l .chassis;
+      subtype = outlineOf l .subtype;
+      portId = textOf l (outlineOf l .port);
+      seconds = outlineOf l .seconds;
+      octets = l;
+    }
+
+abbrev pub whoAt : Place → Ident
+whoAt x = whose (x .port) (said (lldpduAt x))
+
+-- an LLDPDU has this chassis and port ID, whatever the port
+unfoldable pub says : List ℕ → List ℕ → ℕ → List ℕ → Bool
+says l c u i = same (whose 0 (said l)) (ident 0 c u i)
+
+-- place k has a record of w
+unfoldable pub isOf : State → Ident → ℕ → Bool
+isOf s w k = both (used (at s k)) (same (whoAt (at s k)) w)
+
+-- the place of w, or the number of places where it is new
+unfoldable pub find : State → Ident → ℕ
+find s w = firstFrom (isOf s w) 0 places
+
+-- how many used places have an identity that passes g
+unfoldable pub number : State → (Ident → Bool) → ℕ
+number s g = count (λ k. both (used (at s k)) (g (whoAt (at s k)))) places
+
+-- all numbers and all octets 0 (N6)
+abbrev pub empty : State
+empty =
+    record {
+      table = record { port = replicate places 0; seconds = replicate places 0; length = replicate places 0 };
+      buf = replicate octets 0;
+    }
+
+-- n places, each list as long as that asks
+pub record Sized (n : ℕ) (s : State) : Type 0 where
+  pub ports-long : length (s .table .port) ≡ n
+  pub seconds-long : length (s .table .seconds) ≡ n
+  pub lengths-long : length (s .table .length) ≡ n
+  pub buf-long : length (s .buf) ≡ n * size

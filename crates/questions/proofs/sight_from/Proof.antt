@@ -1,0 +1,67 @@
+-- `questions::sight_from` meets its contract: what is left to search gives the answer of the whole.
+-- One place more is one step (sight-step); behind the last place there is nobody (sight-end).
+use Prim.Native.Nat.{_-_}
+use mathlib.Core.Path.{_≡_, refl, sym, _∙_}
+use borrow.Author.Needs.{needs}
+use Rattle.numbers.specs.Sizes.{places}
+use Rattle.place.specs.State.{state}
+use Rattle.questions.specs.Sight.{sightFrom}
+use Rattle.questions.proofs.QuestionLaws.{passed-over, sight-step, sight-end}
+use Rattle.questions.proofs.sight_from.Statement.{statement}
+use Rattle.questions.proofs.sight_from.Tie as tie
+
+abbrev Inv-loop : tie.InvT-loop
+Inv-loop t buffer address from i₀ i = sightFrom (state t buffer) address from (places - from) ≡ sightFrom (state t buffer) address i (places - i)
+
+abbrev μ-loop : tie.MeasureT-loop
+μ-loop t buffer address from i₀ i = places - i
+
+loop-holds : tie.Need-loop-holds Inv-loop μ-loop
+loop-holds c = refl
+
+naming-at-requires : tie.Need-naming-at-requires Inv-loop μ-loop
+naming-at-requires c κs = search needs
+
+enum-known-named : tie.Need-enum-known-named Inv-loop μ-loop
+enum-known-named c = search needs
+
+returns : tie.Need-returns Inv-loop μ-loop
+returns c =
+    let n = c .before .before .before in
+    let l = n .before .before in
+    let a = l .before .before .args in
+    sym (l .loop .inv ∙ sight-step (state (a .t) (a .buffer .now)) (a .address) (l .loop .i) places (search needs) (sym (n .naming-at .ensures) ∙ c .before .named .given .1))
+
+add-i : tie.Need-add-i Inv-loop μ-loop
+add-i c = search needs
+
+loop-less : tie.Need-loop-less Inv-loop μ-loop
+loop-less c = search needs
+
+loop-again : tie.Need-loop-again Inv-loop μ-loop
+loop-again c =
+    let n = c .before in
+    let l = n .before .before in
+    let a = l .before .before .args in
+    l .loop .inv ∙ sight-step (state (a .t) (a .buffer .now)) (a .address) (l .loop .i) places (search needs) (sym (n .naming-at .ensures)) ∙ passed-over (n .naming-at .result) (l .loop .i) _ (c .match .keys2)
+
+returns-2 : tie.Need-returns-2 Inv-loop μ-loop
+returns-2 c =
+    let l = c .before in
+    let a = l .before .before .args in
+    sym (l .loop .inv ∙ sight-end (state (a .t) (a .buffer .now)) (a .address) (l .loop .i) places (c .loop-test .left))
+
+pub sight-from-spec : {M : Type 1} → statement M
+sight-from-spec =
+    tie.close
+    (tie.spec
+    Inv-loop
+    μ-loop
+    loop-holds
+    naming-at-requires
+    enum-known-named
+    returns
+    add-i
+    loop-less
+    loop-again
+    returns-2)

@@ -1,0 +1,208 @@
+-- The reading means the answer of the rules: texts, link information and address list, beside the verdict.
+-- `reading-means` is the theorem; the code cites `ready`, `assembled` and `reads-exactly`.
+use Prim.{Unit, tt}
+use Prim.Native.Nat.{ℕ, zero, suc, _+_, _*_, _<_, _≤_}
+use mathlib.Core.Path.{_≡_, refl, sym, ap, _∙_}
+use mathlib.Core.List.{List, [], _∷_}
+use mathlib.Core.Bool.{Bool, true, false}
+use mathlib.Core.Option.{some}
+use native.Mathlib.Omega.{arith}
+use borrow.Author.Tests.{eqb-true, eq-eqb}
+use lib.ListN.{length, drop, getD, length-drop}
+use lib.Seq.{getD-drop, length-take-le}
+use lib.Dec.{eqb}
+use Rattle.tally.specs.Tests.{pick}
+use Rattle.octets.proofs.PartLaws.{part-at, part-of-part, rest-of-part}
+use Rattle.links.specs.Link.{typeCount, numberCount, addressCount, linkOk}
+use Rattle.fields.specs.Field.{portDescription, category, manufacturer, modelName, modelNumber, link, addressList, topics, fieldOf}
+use Rattle.fields.specs.declared.Field.{Field}
+use Rattle.fields.specs.declared.Field.the-variants.{Skipped, Malformed, Says}
+use Rattle.links.proofs.LinkLaws.{link-has}
+use Rattle.fields.proofs.FieldLaws.{Fits, field-fits}
+use Rattle.walk.specs.Walk.{Tlv, walk}
+use Rattle.lldpdu.specs.Extent.{portLength, restOf, extentOf}
+use Rattle.found.specs.Found.{nothing, markOf, gather, htipIn}
+use Rattle.reading.specs.Reading.{Ready, tableAt, linkAt, listAt, foundIn, descriptionAt, readingAt, readingOf}
+use Rattle.found.specs.Contents.{onField, contents, linkIn, tlvsIn}
+use Rattle.reading.specs.Meaning.{firstLink, firstList, saidIn, answerAt, answerOf, linkMeant, listMeant, saidBy, meant, Reads}
+use Rattle.lldpdu.proofs.ExtentLaws.{good, good-port}
+use Rattle.found.proofs.MarkLaws.{AllIn, walk-in, textAt, upTo2, Means, topic-means}
+use Rattle.found.proofs.VerdictLaws.{htip-means}
+use Rattle.walk.specs.declared.Extent.{Extent}
+use Rattle.walk.specs.declared.Extent.the-variants.{Refused, Octets}
+use Rattle.found.specs.declared.Mark.{Mark}
+use Rattle.found.specs.declared.Found.{Found}
+use Rattle.reading.specs.declared.Description.{Description}
+use Rattle.reading.specs.declared.Link.{Link}
+use Rattle.reading.specs.declared.Link.the-variants as link-is
+use Rattle.reading.specs.declared.Reading.{Reading}
+
+-- Link information
+
+-- what the content of a well formed link information has, with its counts
+pub record LinkContent (c : List ℕ) (n m k : ℕ) : Type 0 where
+  pub typed : getD c 0 0 ≡ n
+  pub numbered : getD c (1 + n) 0 ≡ m
+  pub counted : getD c (2 + n + m) 0 ≡ k
+  pub ends : length c ≡ 3 + n + m + 6 * k
+
+link-content : (b : List ℕ) → linkOk b ≡ true → LinkContent (drop 4 b) (typeCount b) (numberCount b) (addressCount b)
+link-content b e =
+    let n = typeCount b in
+    let m = numberCount b in
+    let place : (i j : ℕ) → 4 + i ≡ j → getD (drop 4 b) i 0 ≡ getD b j 0 = λ i j q. getD-drop 4 b i 0 ∙ ap (λ (k : ℕ). getD b k 0) q in
+    record {
+      typed = place 0 4 refl;
+      numbered = place (1 + n) (5 + n) (omega arith);
+      counted = place (2 + n + m) (6 + n + m) (omega arith);
+      ends = length-drop 4 b ∙ omega (arith, link-has b e .ends);
+    }
+
+-- every content of the topic is one of a well formed link information
+abbrev AllLinked : List (List ℕ) → Type 0
+AllLinked [] = Unit {0}
+AllLinked (c ∷ cs) = ((n : ℕ) × ((m : ℕ) × ((k : ℕ) × LinkContent c n m k))) × AllLinked cs
+
+field-linked : (b : List ℕ) (x : Field) (more : List (List ℕ)) → Fits b x → AllLinked more → AllLinked (onField x link b more)
+field-linked b Skipped more h i = i
+field-linked b Malformed more h i = i
+field-linked b (Says topic skip) more h i = go (eqb link topic) refl
+  where
+    go : (t : Bool) → eqb link topic ≡ t → AllLinked (pick t (drop skip b ∷ more) more)
+    go true e =
+        let w = h .linked (sym (eqb-true link topic e)) in
+        let c : LinkContent (drop skip b) (typeCount b) (numberCount b) (addressCount b) = rw (w .1) (link-content b (w .0)) in
+        ((typeCount b, (numberCount b, (addressCount b, c))), i)
+    go false e = i
+
+pub contents-linked : (ts : List Tlv) → AllLinked (contents link ts)
+unfolding contents
+contents-linked [] = tt
+contents-linked (t ∷ ts) =
+    field-linked (t .body) (fieldOf (t .kind) (t .body)) (contents link ts) (field-fits (t .body) (t .kind)) (contents-linked ts)
+
+-- a topic that was met has a mark that was set
+met : {s : List ℕ} {m : Mark} {c : List ℕ} {cs : List (List ℕ)} → Means s m (c ∷ cs) → eqb (m .times) 0 ≡ false
+met {m = m} {cs = cs} i = go (length cs) (i .count)
+  where
+    go : (n : ℕ) → m .times ≡ upTo2 (suc n) → eqb (m .times) 0 ≡ false
+    go zero q = rw q
+    go (suc n) q = rw q
+
+-- the link information at a mark, by the counts in its content
+module _ (s : List ℕ) (m : Mark) (n k j : ℕ) (t : eqb (m .times) 0 ≡ false) (h : m .start + m .len ≤ length s) (c : LinkContent (textAt s m) n k j) where
+  link-size : m .len ≡ 3 + n + k + 6 * j
+  link-size = sym (length-take-le (m .len) (drop (m .start) s) (omega (arith, length-drop (m .start) s))) ∙ c .ends
+
+  pub link-table : linkAt s m ≡ tableAt (m .start) n k j
+  unfolding linkAt
+  link-table =
+      let a = m .start in
+      let size = link-size in
+      let e0 : getD s a 0 ≡ n = sym (part-at s a (m .len) 0 (omega arith) (omega arith)) ∙ c .typed in
+      let e1 : getD s (a + 1 + n) 0 ≡ k = sym (part-at s a (m .len) (1 + n) (omega arith) (omega arith)) ∙ c .numbered in
+      let e2 : getD s (a + 2 + n + k) 0 ≡ j = sym (part-at s a (m .len) (2 + n + k) (omega arith) (omega arith)) ∙ c .counted in
+      rw (t, e0, e1, e2)
+
+  table-means : linkMeant s (linkAt s m) ≡ some (linkIn (textAt s m) (getD (textAt s m) 0 0) (getD (textAt s m) (1 + getD (textAt s m) 0 0) 0))
+  table-means =
+      let a = m .start in
+      let size = link-size in
+      rw (
+        link-table,
+        c .typed,
+        c .numbered,
+        part-of-part s a (m .len) 1 n {j = a + 1} (omega arith) refl,
+        part-of-part s a (m .len) (2 + n) k {j = a + 2 + n} (omega arith) (omega arith),
+        rest-of-part s a (m .len) (3 + n + k) (6 * j) {j = a + 3 + n + k} size (omega arith),
+      )
+
+link-means : (s : List ℕ) (m : Mark) (cs : List (List ℕ)) → AllLinked cs → Means s m cs → linkMeant s (linkAt s m) ≡ firstLink cs
+unfolding linkAt
+link-means s m [] l i = rw (eq-eqb (m .times) 0 (i .count))
+link-means s m (c ∷ cs) l i =
+    let w = l .0 in
+    let here : LinkContent (textAt s m) (w .0) (w .1 .0) (w .1 .1 .0) = rw (i .text) (w .1 .1 .1) in
+    table-means s m (w .0) (w .1 .0) (w .1 .1 .0) (met i) (i .inside) here
+    ∙ ap (λ (x : List ℕ). some (linkIn x (getD x 0 0) (getD x (1 + getD x 0 0) 0))) (i .text)
+
+-- two texts with the same contents have the same link information
+pub link-same : (s u : List ℕ) (m : Mark) (cs : List (List ℕ)) → AllLinked cs → Means s m cs → Means u m cs → linkAt u m ≡ linkAt s m
+unfolding linkAt
+link-same s u m [] l i k = rw (eq-eqb (m .times) 0 (i .count))
+link-same s u m (c ∷ cs) l i k =
+    let w = l .0 in
+    let table : (v : List ℕ) → Means v m (c ∷ cs) → linkAt v m ≡ tableAt (m .start) (w .0) (w .1 .0) (w .1 .1 .0) =
+    λ v x. link-table v m (w .0) (w .1 .0) (w .1 .1 .0) (met x) (x .inside) (rw (x .text) (w .1 .1 .1)) in
+    table u k ∙ sym (table s i)
+
+-- the parts of a link information lie in a text of n octets
+abbrev pub LinkFits : ℕ → Link → Type 0
+LinkFits n link-is.Absent = Unit {0}
+LinkFits n (link-is.Table i p a) = (i .start + i .len ≤ n) × ((p .start + p .len ≤ n) × (a .start + a .len ≤ n))
+
+link-fits : (s : List ℕ) (m : Mark) (cs : List (List ℕ)) → AllLinked cs → Means s m cs → LinkFits (length s) (linkAt s m)
+unfolding linkAt
+link-fits s m [] l i = rw (eq-eqb (m .times) 0 (i .count)) tt
+link-fits s m (c ∷ cs) l i =
+    let w = l .0 in
+    let here : LinkContent (textAt s m) (w .0) (w .1 .0) (w .1 .1 .0) = rw (i .text) (w .1 .1 .1) in
+    let size = link-size s m (w .0) (w .1 .0) (w .1 .1 .0) (met i) (i .inside) here in
+    rw (link-table s m (w .0) (w .1 .0) (w .1 .1 .0) (met i) (i .inside) here) (omega (arith, i .inside), (omega (arith, i .inside), omega (arith, i .inside)))
+
+list-means : (s : List ℕ) (m : Mark) (cs : List (List ℕ)) → Means s m cs → listMeant s (listAt m) ≡ firstList cs
+unfolding listAt
+list-means s m [] i = rw (eq-eqb (m .times) 0 (i .count))
+list-means s m (c ∷ cs) i = rw (met i) (ap some (i .text))
+
+-- The whole answer
+
+pub rest-in : (s : List ℕ) → AllIn s (restOf s .tlvs)
+rest-in s = walk-in s (drop (15 + portLength s) s) 0 (15 + portLength s) refl
+
+pub marks-inside : (s : List ℕ) (topic : ℕ) → topic < topics → markOf topic (foundIn s) .start + markOf topic (foundIn s) .len ≤ length s
+marks-inside s topic h = topic-means s topic (restOf s .tlvs) h (rest-in s) .inside
+
+pub reading-link-fits : (s : List ℕ) → LinkFits (length s) (linkAt s (markOf link (foundIn s)))
+reading-link-fits s =
+    link-fits s (markOf link (foundIn s)) (contents link (tlvsIn s)) (contents-linked (tlvsIn s)) (topic-means s link (restOf s .tlvs) (omega arith) (rest-in s))
+
+said-means : (s : List ℕ) → saidBy s (descriptionAt s (portLength s) (foundIn s)) ≡ saidIn s (tlvsIn s)
+said-means s =
+    let m : (t : ℕ) → t < topics → Means s (markOf t (foundIn s)) (contents t (tlvsIn s)) = λ t h. topic-means s t (restOf s .tlvs) h (rest-in s) in
+    rw (
+      m portDescription (omega arith) .text,
+      m category (omega arith) .text,
+      m manufacturer (omega arith) .text,
+      m modelName (omega arith) .text,
+      m modelNumber (omega arith) .text,
+      link-means s (markOf link (foundIn s)) (contents link (tlvsIn s)) (contents-linked (tlvsIn s)) (m link (omega arith)),
+      list-means s (markOf addressList (foundIn s)) (contents addressList (tlvsIn s)) (m addressList (omega arith)),
+    )
+
+pub reading-means : (s : List ℕ) → meant s (readingOf s) ≡ answerOf s
+unfolding readingOf answerOf
+reading-means s = go (extentOf s)
+  where
+    go : (x : Extent) → meant s (readingAt x s) ≡ answerAt x s
+    go (Refused n) = refl
+    go (Octets e) = rw (htip-means s (restOf s .tlvs) (rest-in s), said-means s)
+
+-- the one answer means what it should
+pub reads-exactly : (s : List ℕ) {r : Reading} → r ≡ readingOf s → Reads s r
+reads-exactly s e = record { exact = e; means = ap (meant s) e ∙ reading-means s }
+
+-- what the code has in hand of a valid LLDPDU: its length, L of TLV 2, and what was gathered
+module _ (s : List ℕ) {e p : ℕ} {f : Found} (v : extentOf s ≡ Octets e) (q : p ≡ portLength s) (g : f ≡ gather nothing (walk (drop (15 + p) s) 0 (15 + p) .tlvs)) where
+  gathered-is : f ≡ foundIn s
+  gathered-is = g ∙ ap (λ (n : ℕ). gather nothing (walk (drop (15 + n) s) 0 (15 + n) .tlvs)) q
+
+  pub ready : Ready s p f
+  ready =
+      let port = good-port (good s e v) in
+      let inside = marks-inside s link (omega arith) in
+      rw gathered-is (record { least = omega (arith, q); most = omega (arith, q); linked = omega arith })
+
+  pub assembled : {h : Bool} {d : Description} → h ≡ htipIn f → d ≡ descriptionAt s p f → record { extent = Octets e; htip = h; description = d } ≡ readingOf s
+  unfolding readingOf
+  assembled {h} {d} x y = rw (v, x, y, gathered-is, q)

@@ -1,0 +1,14 @@
+-- For each public function of this crate: two answers that its contract allows are one.
+-- The contracts are the toolchain's own reading of the source (`Post` of each `Reads`).
+use mathlib.Core.Path.{sym, _∙_}
+use Rattle.tally.proofs.Sole.{Sole}
+use Rattle.reading.proofs.read_lldpdu.Kinds as read-lldpdu-kinds
+use Rattle.reading.proofs.read_lldpdu.Reads as read-lldpdu
+use Rattle.reading.proofs.refused_reading.Kinds as refused-reading-kinds
+use Rattle.reading.proofs.refused_reading.Reads as refused-reading
+
+pub read-lldpdu-sole : Sole 1 read-lldpdu-kinds.ps read-lldpdu-kinds.r read-lldpdu.Post
+read-lldpdu-sole κs a r q x y e f = e .exact ∙ sym (f .exact)
+
+pub refused-reading-sole : Sole 0 refused-reading-kinds.ps refused-reading-kinds.r refused-reading.Post
+refused-reading-sole κs a r q x y e f = e ∙ sym f

@@ -1,0 +1,44 @@
+-- Octets behind the End TLV never matter (L8): a valid LLDPDU followed by anything else reads the same.
+-- Each answer of the reader in turn.
+use Prim.Native.Nat.{ℕ}
+use mathlib.Core.Path.{_≡_, ap}
+use mathlib.Core.List.{List, _++_, map}
+use native.Mathlib.Omega.{arith}
+use lib.ListN.{take}
+use Rattle.fields.specs.Field.{link}
+use Rattle.walk.specs.Walk.{Walked}
+use Rattle.lldpdu.specs.Extent.{restOf, extentOf}
+use Rattle.found.specs.Found.{nothing, markOf, gather}
+use Rattle.reading.specs.Reading.{linkAt, foundIn, readingOf}
+use Rattle.found.specs.Contents.{contents, tlvsIn}
+use Rattle.reading.specs.Meaning.{answerOf}
+use Rattle.found.proofs.MarkLaws.{AllIn, topic-means}
+use Rattle.reading.proofs.MeaningLaws.{rest-in, contents-linked, link-same}
+use Rattle.lldpdu.proofs.Stable.{front, extent-stable, chassis-same, subtype-same, port-same, seconds-same}
+use Rattle.walk.specs.declared.Extent.the-variants.{Octets}
+
+module _ (s t : List ℕ) (e : ℕ) (v : extentOf s ≡ Octets e) where
+  abbrev u : List ℕ
+  u = take e s ++ t
+
+  found-same : foundIn u ≡ foundIn s
+  found-same = ap (λ (w : Walked). gather nothing (w .tlvs)) (front s t e v .rest)
+
+  tlvs-same : tlvsIn u ≡ tlvsIn s
+  tlvs-same = ap (λ (w : Walked). map (λ p. p .tlv) (w .tlvs)) (front s t e v .rest)
+
+  pub answer-stable : answerOf u ≡ answerOf s
+  unfolding answerOf
+  answer-stable = rw (extent-stable s t e v, v, tlvs-same, chassis-same s t e v, subtype-same s t e v, port-same s t e v, seconds-same s t e v)
+
+  link-kept : linkAt u (markOf link (foundIn s)) ≡ linkAt s (markOf link (foundIn s))
+  link-kept =
+      let ps = restOf s .tlvs in
+      let here : AllIn u ps = rw (ap (λ (w : Walked). w .tlvs) (front s t e v .rest)) at (rest-in u) in
+      link-same s u (markOf link (foundIn s)) (contents link (tlvsIn s)) (contents-linked (tlvsIn s))
+      (topic-means s link ps (omega arith) (rest-in s))
+      (topic-means u link ps (omega arith) here)
+
+  pub reading-stable : readingOf u ≡ readingOf s
+  unfolding readingOf
+  reading-stable = rw (extent-stable s t e v, v, found-same, chassis-same s t e v, subtype-same s t e v, seconds-same s t e v, front s t e v .port, link-kept)

@@ -1,0 +1,118 @@
+-- `reading::description_at` meets its contract: each field by what its own function ensures.
+-- Nothing more is needed.
+use mathlib.Core.Path.{refl}
+use borrow.Author.Needs.{needs}
+use Rattle.reading.proofs.description_at.Statement.{statement}
+use Rattle.reading.proofs.description_at.Tie as tie
+
+six-requires : tie.Need-six-requires
+six-requires c κs = search needs
+
+octet-requires : tie.Need-octet-requires
+octet-requires c κs = search needs
+
+sub-t7 : tie.Need-sub-t7
+sub-t7 c = search needs
+
+add-octet : tie.Need-add-octet
+add-octet c = search needs
+
+octet-requires-2 : tie.Need-octet-requires-2
+octet-requires-2 c κs = search needs
+
+add-octet-2 : tie.Need-add-octet-2
+add-octet-2 c = search needs
+
+octet-requires-3 : tie.Need-octet-requires-3
+octet-requires-3 c κs = search needs
+
+pair-requires : tie.Need-pair-requires
+pair-requires c κs = search needs
+
+element-copy-out-part-at : tie.Need-element-copy-out-part-at
+element-copy-out-part-at c = search needs
+
+part-at-requires : tie.Need-part-at-requires
+part-at-requires c κs = search needs
+
+element-copy-out-part-at-2 : tie.Need-element-copy-out-part-at-2
+element-copy-out-part-at-2 c = search needs
+
+part-at-requires-2 : tie.Need-part-at-requires-2
+part-at-requires-2 c κs = search needs
+
+element-copy-out-part-at-3 : tie.Need-element-copy-out-part-at-3
+element-copy-out-part-at-3 c = search needs
+
+part-at-requires-3 : tie.Need-part-at-requires-3
+part-at-requires-3 c κs = search needs
+
+element-copy-out-part-at-4 : tie.Need-element-copy-out-part-at-4
+element-copy-out-part-at-4 c = search needs
+
+part-at-requires-4 : tie.Need-part-at-requires-4
+part-at-requires-4 c κs = search needs
+
+element-copy-out-part-at-5 : tie.Need-element-copy-out-part-at-5
+element-copy-out-part-at-5 c = search needs
+
+part-at-requires-5 : tie.Need-part-at-requires-5
+part-at-requires-5 c κs = search needs
+
+element-copy-out-link-at : tie.Need-element-copy-out-link-at
+element-copy-out-link-at c = search needs
+
+link-at-requires : tie.Need-link-at-requires
+link-at-requires c κs = search needs
+
+element-copy-out-list-at : tie.Need-element-copy-out-list-at
+element-copy-out-list-at c = search needs
+
+list-at-requires : tie.Need-list-at-requires
+list-at-requires c κs = search needs
+
+returns : tie.Need-returns
+returns c =
+    rw (
+      c .before .before .before .before .before .before .before .before .before .before .before .before .before .before .before .before .before .before .six .ensures,
+      c .before .before .before .before .before .before .before .before .before .before .before .before .before .before .before .before .before .octet .ensures,
+      c .before .before .before .before .before .before .before .before .before .before .before .before .before .before .pair .ensures,
+      c .before .before .before .before .before .before .before .before .before .before .before .before .before .before .before .before .octet2 .ensures,
+      c .before .before .before .before .before .before .before .before .before .before .before .before .before .before .before .octet3 .ensures,
+      c .before .before .before .before .before .before .before .before .before .before .before .before .part-at .ensures,
+      c .before .before .before .before .before .before .before .before .before .before .part-at2 .ensures,
+      c .before .before .before .before .before .before .before .before .part-at3 .ensures,
+      c .before .before .before .before .before .before .part-at4 .ensures,
+      c .before .before .before .before .part-at5 .ensures,
+      c .before .before .link-at .ensures,
+      c .list-at .ensures,
+    )
+    refl
+
+pub description-at-spec : {M : Type 1} → statement M
+description-at-spec =
+    tie.close
+    (tie.spec
+    six-requires
+    octet-requires
+    sub-t7
+    add-octet
+    octet-requires-2
+    add-octet-2
+    octet-requires-3
+    pair-requires
+    element-copy-out-part-at
+    part-at-requires
+    element-copy-out-part-at-2
+    part-at-requires-2
+    element-copy-out-part-at-3
+    part-at-requires-3
+    element-copy-out-part-at-4
+    part-at-requires-4
+    element-copy-out-part-at-5
+    part-at-requires-5
+    element-copy-out-link-at
+    link-at-requires
+    element-copy-out-list-at
+    list-at-requires
+    returns)

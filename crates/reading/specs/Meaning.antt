@@ -1,0 +1,135 @@
+-- What an LLDPDU says, by the rules alone and in lists of octets: this is what must be believed of the reader.
+-- No place, no mark and no code type stands in it; what the code answers means this, and that is part of its contract.
+use Prim.Native.Nat.{ℕ, _+_, _-_}
+use mathlib.Core.Path.{_≡_}
+use mathlib.Core.List.{List, [], _∷_}
+use mathlib.Core.Bool.{Bool, false}
+use mathlib.Core.Option.{Option, none, some}
+use lib.ListN.{take, drop, getD}
+use Rattle.octets.specs.Address.{sixAt}
+use Rattle.found.specs.Contents.{contents, htipOf, first, LinkInfo, linkIn, tlvsIn}
+use Rattle.fields.specs.Field.{portDescription, category, manufacturer, modelName, modelNumber, link, addressList}
+use Rattle.walk.specs.Walk.{Tlv}
+use Rattle.lldpdu.specs.Extent.{refusalIn, octetsIn, portLength, extentOf}
+use Rattle.lldpdu.specs.Outline.{textOf, noAddress, secondsIn}
+use Rattle.reading.specs.Reading.{readingOf}
+use Rattle.walk.specs.declared.Extent.{Extent}
+use Rattle.walk.specs.declared.Extent.the-variants.{Refused, Octets}
+use Rattle.reading.specs.declared.Link.{Link}
+use Rattle.reading.specs.declared.Link.the-variants as link-is
+use Rattle.reading.specs.declared.AddressList.{AddressList}
+use Rattle.reading.specs.declared.AddressList.the-variants as list-is
+use Rattle.reading.specs.declared.Description.{Description}
+use Rattle.reading.specs.declared.Reading.{Reading}
+
+-- What is said
+
+pub record Said : Type 0 where
+  pub chassis : List ℕ
+  pub subtype : ℕ
+  pub port : List ℕ
+  pub seconds : ℕ
+  pub words : List ℕ
+  pub category : List ℕ
+  pub manufacturer : List ℕ
+  pub model : List ℕ
+  pub number : List ℕ
+  pub link : Option LinkInfo
+  pub list : Option (List ℕ)
+
+-- an absent link information and an absent list differ from empty ones (A3)
+abbrev pub firstLink : List (List ℕ) → Option LinkInfo
+firstLink [] = none
+firstLink (c ∷ l) = some (linkIn c (getD c 0 0) (getD c (1 + getD c 0 0) 0))
+
+abbrev pub firstList : List (List ℕ) → Option (List ℕ)
+firstList [] = none
+firstList (x ∷ l) = some x
+
+-- chassis, port ID and seconds from TLVs 1 to 3, the rest from the TLVs ts behind them
+abbrev pub saidIn : List ℕ → List Tlv → Said
+saidIn s ts =
+    record {
+      chassis = sixAt s 3;
+      subtype = getD s 11 0;
+      port = take (portLength s - 1) (drop 12 s);
+      seconds = secondsIn s;
+      words = first (contents portDescription ts);
+      category = first (contents category ts);
+      manufacturer = first (contents manufacturer ts);
+      model = first (contents modelName ts);
+      number = first (contents modelNumber ts);
+      link = firstLink (contents link ts);
+      list = firstList (contents addressList ts);
+    }
+
+-- The answer (A1): a refusal number, 0 where there is none, and what stands beside it
+
+pub record Answer : Type 0 where
+  pub refusal : ℕ
+  pub octets : ℕ
+  pub htip : Bool
+  pub said : Said
+
+abbrev pub refused : ℕ → Answer
+refused n =
+    record {
+      refusal = n;
+      octets = 0;
+      htip = false;
+      said =
+          record {
+            chassis = noAddress;
+            subtype = 0;
+            port = [];
+            seconds = 0;
+            words = [];
+            category = [];
+            manufacturer = [];
+            model = [];
+            number = [];
+            link = none;
+            list = none;
+          };
+    }
+
+abbrev pub answerAt : Extent → List ℕ → Answer
+answerAt (Refused n) s = refused n
+answerAt (Octets e) s = record { refusal = 0; octets = e; htip = htipOf (tlvsIn s); said = saidIn s (tlvsIn s) }
+
+unfoldable pub answerOf : List ℕ → Answer
+answerOf s = answerAt (extentOf s) s
+
+-- What the code's answer means over the LLDPDU s that was read
+
+abbrev pub linkMeant : List ℕ → Link → Option LinkInfo
+linkMeant s link-is.Absent = none
+linkMeant s (link-is.Table i p a) = some (record { interface = textOf s i; port = textOf s p; addresses = textOf s a })
+
+abbrev pub listMeant : List ℕ → AddressList → Option (List ℕ)
+listMeant s list-is.Absent = none
+listMeant s (list-is.Listed a) = some (textOf s a)
+
+abbrev pub saidBy : List ℕ → Description → Said
+saidBy s d =
+    record {
+      chassis = d .chassis;
+      subtype = d .subtype;
+      port = textOf s (d .port);
+      seconds = d .seconds;
+      words = textOf s (d .words);
+      category = textOf s (d .category);
+      manufacturer = textOf s (d .manufacturer);
+      model = textOf s (d .model);
+      number = textOf s (d .number);
+      link = linkMeant s (d .link);
+      list = listMeant s (d .list);
+    }
+
+abbrev pub meant : List ℕ → Reading → Answer
+meant s r = record { refusal = refusalIn (r .extent); octets = octetsIn (r .extent); htip = r .htip; said = saidBy s (r .description) }
+
+-- The contract of the reader: the answer is this one and no other, and it means what the rules say
+pub record Reads (s : List ℕ) (r : Reading) : Type 0 where
+  pub exact : r ≡ readingOf s
+  pub means : meant s r ≡ answerOf s

@@ -1,0 +1,99 @@
+-- The reading of an LLDPDU as the code answers it: numbers, and parts of the LLDPDU.
+-- What it means, in lists of octets, is specs/Meaning.antt.
+use Prim.Native.Nat.{ℕ, _+_, _-_, _*_, _≤_}
+use mathlib.Core.List.{List}
+use mathlib.Core.Bool.{false}
+use lib.ListN.{length, getD}
+use lib.Dec.{eqb}
+use Rattle.tally.specs.Tests.{pick}
+use Rattle.octets.specs.Numbers.{pairOf}
+use Rattle.octets.specs.Address.{sixAt}
+use Rattle.fields.specs.Field.{portDescription, category, manufacturer, modelName, modelNumber, link, addressList}
+use Rattle.lldpdu.specs.Extent.{portLength, restOf, extentOf}
+use Rattle.lldpdu.specs.Outline.{part, noAddress}
+use Rattle.found.specs.Found.{markOf, nothing, gather, htipIn}
+use Rattle.walk.specs.declared.Extent.{Extent}
+use Rattle.walk.specs.declared.Extent.the-variants.{Refused, Octets}
+use Rattle.lldpdu.specs.declared.outline.Part.{Part}
+use Rattle.found.specs.declared.Mark.{Mark}
+use Rattle.found.specs.declared.Found.{Found}
+use Rattle.reading.specs.declared.Link.{Link}
+use Rattle.reading.specs.declared.Link.the-variants as link-is
+use Rattle.reading.specs.declared.AddressList.{AddressList}
+use Rattle.reading.specs.declared.AddressList.the-variants as list-is
+use Rattle.reading.specs.declared.Description.{Description}
+use Rattle.reading.specs.declared.Reading.{Reading}
+
+abbrev pub partAt : Mark → Part
+partAt m = part (m .start) (m .len)
+
+-- n, the interface type, m, the port number, k and the addresses, from a place on (T7)
+abbrev pub tableAt : ℕ → ℕ → ℕ → ℕ → Link
+tableAt at n m k = link-is.Table (part (at + 1) n) (part (at + 2 + n) m) (part (at + 3 + n + m) (6 * k))
+
+abbrev pub portCountAt : List ℕ → ℕ → ℕ
+portCountAt s at = getD s (at + 1 + getD s at 0) 0
+
+unfoldable pub linkAt : List ℕ → Mark → Link
+linkAt s m =
+    pick (eqb (m .times) 0) link-is.Absent
+    (tableAt (m .start) (getD s (m .start) 0) (portCountAt s (m .start))
+    (getD s (m .start + 2 + getD s (m .start) 0 + portCountAt s (m .start)) 0))
+
+unfoldable pub listAt : Mark → AddressList
+listAt m = pick (eqb (m .times) 0) list-is.Absent (list-is.Listed (partAt m))
+
+-- with p octets in TLV 2
+abbrev pub descriptionAt : List ℕ → ℕ → Found → Description
+descriptionAt s p f =
+    record {
+      chassis = sixAt s 3;
+      subtype = getD s 11 0;
+      port = part 12 (p - 1);
+      seconds = pairOf (getD s (13 + p) 0) (getD s (14 + p) 0);
+      words = partAt (markOf portDescription f);
+      category = partAt (markOf category f);
+      manufacturer = partAt (markOf manufacturer f);
+      model = partAt (markOf modelName f);
+      number = partAt (markOf modelNumber f);
+      link = linkAt s (markOf link f);
+      list = listAt (markOf addressList f);
+    }
+
+-- what the code needs before it may do the sums of a description
+pub record Ready (s : List ℕ) (p : ℕ) (f : Found) : Type 0 where
+  pub least : 1 ≤ p
+  pub most : p ≤ 256
+  pub linked : markOf link f .start ≤ length s
+
+abbrev pub foundIn : List ℕ → Found
+foundIn s = gather nothing (restOf s .tlvs)
+
+abbrev pub refusedReading : ℕ → Reading
+refusedReading n =
+    record {
+      extent = Refused n;
+      htip = false;
+      description =
+          record {
+            chassis = noAddress;
+            subtype = 0;
+            port = part 0 0;
+            seconds = 0;
+            words = part 0 0;
+            category = part 0 0;
+            manufacturer = part 0 0;
+            model = part 0 0;
+            number = part 0 0;
+            link = link-is.Absent;
+            list = list-is.Absent;
+          };
+    }
+
+-- a refusal fixes the whole answer (R12)
+abbrev pub readingAt : Extent → List ℕ → Reading
+readingAt (Refused n) s = refusedReading n
+readingAt (Octets e) s = record { extent = Octets e; htip = htipIn (foundIn s); description = descriptionAt s (portLength s) (foundIn s) }
+
+unfoldable pub readingOf : List ℕ → Reading
+readingOf s = readingAt (extentOf s) s

@@ -1,0 +1,166 @@
+// The whole reading of an LLDPDU: its extent, every field that is read, and the HTIP verdict.
+// The description holds numbers and parts of the LLDPDU, so that what was read can be written as it stands.
+ghost use mathlib.Core.Path.{_≡_};
+ghost use Prim.Native.Nat.{_≤_};
+ghost use lib.ListN.{length};
+ghost use Rattle.reading.specs.Reading.{partAt, linkAt, listAt, Ready, descriptionAt, refusedReading};
+ghost use Rattle.reading.specs.Meaning.{Reads};
+use found::Found;
+use found::Mark;
+use found::gathered;
+use found::is_htip;
+use lldpdu::Extent;
+use lldpdu::Part;
+use lldpdu::extent_of;
+use lldpdu::port_length;
+use octets::octet;
+use octets::pair;
+use octets::six;
+
+// A link information: the octets of its interface type, of its port number and of all its addresses (T7).
+pub enum Link {
+    Absent,
+    Table {
+        interface: Part,
+        port: Part,
+        addresses: Part,
+    },
+}
+
+// The octets of all addresses of an address list (T8).
+pub enum AddressList {
+    Absent,
+    Listed(Part),
+}
+
+// What an announcement says, for the reader and for the writer. An absent string is an empty part (A2).
+pub struct Description {
+    pub chassis: [u8; 6],
+    pub subtype: u8,
+    pub port: Part,
+    pub seconds: u16,
+    // the port description
+    pub words: Part,
+    pub category: Part,
+    pub manufacturer: Part,
+    // model name and model number
+    pub model: Part,
+    pub number: Part,
+    pub link: Link,
+    pub list: AddressList,
+}
+
+pub struct Reading {
+    pub extent: Extent,
+    pub htip: bool,
+    pub description: Description,
+}
+
+fn part_at(m: Mark) -> Part
+    ensures { λ r. ⌜ r ≡ partAt m ⌝ }
+{
+    Part {
+        start: m.start,
+        len: m.len,
+    }
+}
+
+fn link_at(s: &[u8], m: Mark) -> Link
+    requires { ⌜ m .start ≤ length (now s) ⌝ }
+    ensures { λ r. ⌜ r ≡ linkAt (now (s .entry)) m ⌝ }
+{
+    let times = m.times;
+    if times == 0 {
+        return Link::Absent;
+    }
+    let at = m.start;
+    let n = octet(s, at) as usize;
+    let k = octet(s, at + 1 + n) as usize;
+    let addresses = octet(s, at + 2 + n + k) as usize;
+    Link::Table {
+        interface: Part {
+            start: at + 1,
+            len: n,
+        },
+        port: Part {
+            start: at + 2 + n,
+            len: k,
+        },
+        addresses: Part {
+            start: at + 3 + n + k,
+            len: 6 * addresses,
+        },
+    }
+}
+
+fn list_at(m: Mark) -> AddressList
+    ensures { λ r. ⌜ r ≡ listAt m ⌝ }
+{
+    let times = m.times;
+    if times == 0 {
+        return AddressList::Absent;
+    }
+    AddressList::Listed(part_at(m))
+}
+
+fn description_at(s: &[u8], p: usize, found: Found) -> Description
+    requires { ⌜ Ready (now s) p found ⌝ }
+    ensures { λ r. ⌜ r ≡ descriptionAt (now (s .entry)) p found ⌝ }
+{
+    Description {
+        chassis: six(s, 3),
+        subtype: octet(s, 11),
+        port: Part {
+            start: 12,
+            len: p - 1,
+        },
+        seconds: pair(octet(s, 13 + p), octet(s, 14 + p)),
+        words: part_at(found.marks[fields::PORT_DESCRIPTION]),
+        category: part_at(found.marks[fields::CATEGORY]),
+        manufacturer: part_at(found.marks[fields::MANUFACTURER]),
+        model: part_at(found.marks[fields::MODEL_NAME]),
+        number: part_at(found.marks[fields::MODEL_NUMBER]),
+        link: link_at(s, found.marks[fields::LINK]),
+        list: list_at(found.marks[fields::ADDRESS_LIST]),
+    }
+}
+
+pub fn refused_reading(n: u8) -> Reading
+    ensures { λ r. ⌜ r ≡ refusedReading n ⌝ }
+{
+    let none = Part { start: 0, len: 0 };
+    Reading {
+        extent: Extent::Refused(n),
+        htip: false,
+        description: Description {
+            chassis: [0; 6],
+            subtype: 0,
+            port: none,
+            seconds: 0,
+            words: none,
+            category: none,
+            manufacturer: none,
+            model: none,
+            number: none,
+            link: Link::Absent,
+            list: AddressList::Absent,
+        },
+    }
+}
+
+pub fn read_lldpdu(s: &[u8]) -> Reading
+    ensures { λ r. ⌜ Reads (now (s .entry)) r ⌝ }
+{
+    match extent_of(s) {
+        Extent::Refused(n) => refused_reading(n),
+        Extent::Octets(length) => {
+            let p = port_length(s);
+            let found = gathered(s, 15 + p);
+            Reading {
+                extent: Extent::Octets(length),
+                htip: is_htip(found),
+                description: description_at(s, p, found),
+            }
+        }
+    }
+}

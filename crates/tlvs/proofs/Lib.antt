@@ -1,0 +1,3 @@
+-- The laws of one TLV that is written.
+-- They serve the proofs of the functions here, and those of the whole announcement.
+pub mod TlvLaws

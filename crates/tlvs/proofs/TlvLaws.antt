@@ -1,0 +1,101 @@
+-- Laws of one TLV: its octets as the code puts them, and their number.
+-- The code has the counts in hand; the definitions count the octets of an information string.
+use Prim.Native.Nat.{ℕ, suc, _+_, _/_}
+use mathlib.Core.Path.{_≡_, refl, sym, ap, _∙_}
+use mathlib.Core.List.{List, [], _∷_, _++_, append-nil, append-assoc}
+use mathlib.Core.Option.{some}
+use native.Mathlib.Omega.{arith}
+use lib.ListN.{length, length-append}
+use Rattle.octets.specs.Header.{high, low}
+use Rattle.walk.specs.Walk.{Tlv}
+use Rattle.found.specs.Contents.{LinkInfo}
+use Rattle.tlvs.specs.Tlvs.{written, octetsOf, chassisTlv, portTlv, deviceTlv, linkContent, linkTlv, listTlv, unlessEmpty, ifLinked, ifListed}
+
+-- One TLV, and none
+
+pub one-octets : (t : Tlv) → octetsOf (t ∷ []) ≡ written t
+unfolding octetsOf
+one-octets t = append-nil (written t)
+
+none-at : (f : List ℕ → Tlv) (x : List ℕ) → length x ≡ 0 → [] ≡ octetsOf (unlessEmpty f x)
+unfolding octetsOf
+none-at f [] e = refl
+none-at f (y ∷ l) e = absurd (omega arith)
+
+some-at : (f : List ℕ → Tlv) (x : List ℕ) → (length x ≡ 0 → ⊥) → written (f x) ≡ octetsOf (unlessEmpty f x)
+some-at f [] h = absurd (h refl)
+some-at f (y ∷ l) h = sym (one-octets (f (y ∷ l)))
+
+-- of a string x that the code has in hand for y
+module _ (f : List ℕ → Tlv) {x y : List ℕ} (q : x ≡ y) where
+  pub none-octets : length x ≡ 0 → [] ≡ octetsOf (unlessEmpty f y)
+  none-octets e = none-at f x e ∙ ap (λ (l : List ℕ). octetsOf (unlessEmpty f l)) q
+
+  pub some-octets : (length x ≡ 0 → ⊥) → written (f x) ≡ octetsOf (unlessEmpty f y)
+  some-octets h = some-at f x h ∙ ap (λ (l : List ℕ). octetsOf (unlessEmpty f l)) q
+
+pub octets-append : (a b : List Tlv) → octetsOf (a ++ b) ≡ octetsOf a ++ octetsOf b
+unfolding octetsOf
+octets-append [] b = refl
+octets-append (t ∷ a) b = ap (λ l. written t ++ l) (octets-append a b) ∙ sym (append-assoc (written t) (octetsOf a) (octetsOf b))
+
+-- The fields
+
+abbrev pub ttcHead : ℕ → ℕ → List ℕ
+ttcHead subtype len = high 127 len ∷ low len ∷ 0xE0 ∷ 0x27 ∷ 0x1A ∷ subtype ∷ []
+
+pub device-written : (id : ℕ) (x : List ℕ) → ttcHead 1 (6 + length x) ++ ((id ∷ []) ++ (length x ∷ x)) ≡ written (deviceTlv id x)
+device-written id x =
+    let m : 6 + length x ≡ length (deviceTlv id x .body) = omega arith in
+    ap (λ (k : ℕ). high 127 k ∷ low k ∷ 0xE0 ∷ 0x27 ∷ 0x1A ∷ 1 ∷ id ∷ length x ∷ x) m
+
+pub list-written : (a : List ℕ) → ttcHead 3 (5 + length a) ++ (length a / 6 ∷ a) ≡ octetsOf (ifListed (some a))
+list-written a =
+    let m : 5 + length a ≡ length (listTlv a .body) = omega arith in
+    ap (λ (k : ℕ). high 127 k ∷ low k ∷ 0xE0 ∷ 0x27 ∷ 0x1A ∷ 3 ∷ length a / 6 ∷ a) m ∙ sym (one-octets (listTlv a))
+
+module _ (l : LinkInfo) where
+  abbrev n : ℕ
+  n = length (l .interface)
+
+  abbrev m : ℕ
+  m = length (l .port)
+
+  abbrev k : ℕ
+  k = length (l .addresses)
+
+  pub link-length : length (linkContent l) ≡ 3 + n + m + k
+  link-length = omega (arith, length-append (l .interface) (m ∷ (l .port ++ (k / 6 ∷ l .addresses))), length-append (l .port) (k / 6 ∷ l .addresses))
+
+  pub link-written : ttcHead 2 (7 + n + m + k) ++ ((n ∷ l .interface) ++ ((m ∷ l .port) ++ (k / 6 ∷ l .addresses))) ≡ octetsOf (ifLinked (some l))
+  link-written =
+      let e : 7 + n + m + k ≡ length (linkTlv l .body) = omega (arith, link-length) in
+      ap (λ (z : ℕ). high 127 z ∷ low z ∷ 0xE0 ∷ 0x27 ∷ 0x1A ∷ 2 ∷ linkContent l) e ∙ sym (one-octets (linkTlv l))
+
+  pub link-size : length (octetsOf (ifLinked (some l))) ≡ 9 + n + m + k
+  link-size = ap length (one-octets (linkTlv l)) ∙ omega (arith, link-length)
+
+pub chassis-written : (chassis : List ℕ) → length chassis ≡ 6 → (high 1 7 ∷ low 7 ∷ 4 ∷ chassis) ≡ written (chassisTlv chassis)
+chassis-written chassis six = ap (λ (k : ℕ). high 1 (suc k) ∷ low (suc k) ∷ 4 ∷ chassis) (sym six)
+
+pub port-written : (subtype : ℕ) {x y : List ℕ} → x ≡ y → (high 2 (1 + length x) ∷ low (1 + length x) ∷ subtype ∷ x) ≡ written (portTlv subtype y)
+port-written subtype {x} q =
+    let m : 1 + length x ≡ suc (length x) = omega arith in
+    ap (λ (k : ℕ). high 2 k ∷ low k ∷ subtype ∷ x) m ∙ ap (λ (l : List ℕ). written (portTlv subtype l)) q
+
+-- by the number of octets that the code has counted, none among them
+module _ (f : List ℕ → Tlv) (x : List ℕ) {n : ℕ} (q : n ≡ length x) where
+  pub none-counted : n ≡ 0 → 0 ≡ length (octetsOf (unlessEmpty f x))
+  none-counted e = ap length (none-at f x (sym q ∙ e))
+
+  pub some-counted : (n ≡ 0 → ⊥) → length (octetsOf (unlessEmpty f x)) ≡ length (written (f x))
+  some-counted h = sym (ap length (some-at f x (λ z. h (q ∙ z))))
+
+-- the number of octets does not depend on the ID
+pub same-size : (id : ℕ) (x : List ℕ) → length (octetsOf (unlessEmpty (deviceTlv id) x)) ≡ length (octetsOf (unlessEmpty (deviceTlv 1) x))
+unfolding octetsOf
+same-size id [] = refl
+same-size id (y ∷ l) = refl
+
+pub list-size : (a : List ℕ) → length (octetsOf (ifListed (some a))) ≡ 7 + length a
+list-size a = ap length (one-octets (listTlv a)) ∙ omega arith

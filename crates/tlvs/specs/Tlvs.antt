@@ -1,0 +1,75 @@
+-- The TLVs that the writer writes (L1 to L7, T1 to T10), and their octets.
+-- An empty string is absent and has no TLV; so have absent link information and an absent address list.
+use Prim.Native.Nat.{ℕ, _/_, _%_}
+use mathlib.Core.List.{List, [], _∷_, _++_}
+use mathlib.Core.Option.{Option, none, some}
+use lib.ListN.{length}
+use Rattle.octets.specs.Header.{high, low}
+use Rattle.walk.specs.Walk.{Tlv}
+use Rattle.found.specs.Contents.{LinkInfo}
+
+abbrev pub tlv : ℕ → List ℕ → Tlv
+tlv kind body = record { kind = kind; body = body }
+
+-- a header of seven bits of type and nine bits of length, and the information string (L1)
+abbrev pub written : Tlv → List ℕ
+written t = high (t .kind) (length (t .body)) ∷ low (length (t .body)) ∷ t .body
+
+unfoldable pub octetsOf : List Tlv → List ℕ
+octetsOf [] = []
+octetsOf (t ∷ ts) = written t ++ octetsOf ts
+
+-- The first three (L3 to L5) and the last (L7)
+
+abbrev pub chassisTlv : List ℕ → Tlv
+chassisTlv chassis = tlv 1 (4 ∷ chassis)
+
+abbrev pub portTlv : ℕ → List ℕ → Tlv
+portTlv subtype port = tlv 2 (subtype ∷ port)
+
+abbrev pub secondsTlv : ℕ → Tlv
+secondsTlv seconds = tlv 3 (seconds / 256 ∷ seconds % 256 ∷ [])
+
+abbrev pub endTlv : Tlv
+endTlv = tlv 0 []
+
+-- The fields: a port description (T10), and TTC fields (T1)
+
+abbrev pub wordsTlv : List ℕ → Tlv
+wordsTlv words = tlv 4 words
+
+abbrev pub ttcTlv : ℕ → List ℕ → Tlv
+ttcTlv subtype content = tlv 127 (0xE0 ∷ 0x27 ∷ 0x1A ∷ subtype ∷ content)
+
+-- T2
+abbrev pub deviceTlv : ℕ → List ℕ → Tlv
+deviceTlv id string = ttcTlv 1 (id ∷ length string ∷ string)
+
+-- T7: n, interface type, m, port number, k, k addresses of six octets
+abbrev pub linkContent : LinkInfo → List ℕ
+linkContent l = length (l .interface) ∷ (l .interface ++ (length (l .port) ∷ (l .port ++ (length (l .addresses) / 6 ∷ l .addresses))))
+
+abbrev pub linkTlv : LinkInfo → Tlv
+linkTlv l = ttcTlv 2 (linkContent l)
+
+-- T8: k, k addresses of six octets
+abbrev pub listTlv : List ℕ → Tlv
+listTlv addresses = ttcTlv 3 (length addresses / 6 ∷ addresses)
+
+-- What is there
+
+abbrev pub unlessEmpty : (List ℕ → Tlv) → List ℕ → List Tlv
+unlessEmpty f [] = []
+unlessEmpty f (x ∷ l) = f (x ∷ l) ∷ []
+
+abbrev pub ifLinked : Option LinkInfo → List Tlv
+ifLinked none = []
+ifLinked (some l) = linkTlv l ∷ []
+
+abbrev pub ifListed : Option (List ℕ) → List Tlv
+ifListed none = []
+ifListed (some addresses) = listTlv addresses ∷ []
+
+-- link information by its three parts
+abbrev pub linkInfo : List ℕ → List ℕ → List ℕ → LinkInfo
+linkInfo interface port addresses = record { interface = interface; port = port; addresses = addresses }

@@ -1,0 +1,130 @@
+// One TLV of an announcement, put into a lent output: the first three, the fields, and the header that End has alone.
+// Every function puts its octets at a place of the output and answers the place behind them; what does not fit is left out.
+ghost use mathlib.Core.Path.{_≡_};
+ghost use mathlib.Core.List.{[], _∷_};
+ghost use mathlib.Core.Bool.{true};
+ghost use mathlib.Core.Option.{some};
+ghost use Prim.Native.Nat.{_≤_};
+ghost use lib.ListN.{length};
+ghost use Rattle.output.specs.Output.{outputAt, puts};
+ghost use Rattle.octets.specs.Header.{high, low};
+ghost use Rattle.lldpdu.specs.Outline.{textOf};
+ghost use Rattle.description.specs.Rules.{tableSound, listedSound};
+ghost use Rattle.tlvs.specs.Tlvs.{written, octetsOf, chassisTlv, portTlv, secondsTlv, wordsTlv, deviceTlv, linkInfo, unlessEmpty, ifLinked, ifListed};
+use lldpdu::Part;
+use lldpdu::text_of;
+use octets::high_of;
+use octets::low_of;
+use output::put_all;
+use output::put_octet;
+
+// An octet, mostly a count, and octets behind it.
+fn put_counted(out: &mut [u8], at: usize, n: u8, src: &[u8]) -> usize
+    ensures { λ r. ⌜ outputAt (now (out .exit)) r ≡ puts (n ∷ now (src .entry)) (outputAt (now (out .entry)) at) ⌝ }
+{
+    let a = put_octet(out, at, n);
+    put_all(out, a, src)
+}
+
+// The two octets of a TLV header (L1).
+pub fn put_head(out: &mut [u8], at: usize, kind: u8, len: usize) -> usize
+    ensures { λ r. ⌜ outputAt (now (out .exit)) r ≡ puts (high kind len ∷ low len ∷ []) (outputAt (now (out .entry)) at) ⌝ }
+{
+    let a = put_octet(out, at, high_of(kind, len));
+    put_octet(out, a, low_of(len))
+}
+
+// The header of a TTC field, its organization and its subtype (T1).
+fn put_ttc(out: &mut [u8], at: usize, subtype: u8, len: usize) -> usize
+    ensures { λ r. ⌜ outputAt (now (out .exit)) r ≡ puts (high 127 len ∷ low len ∷ 0xE0 ∷ 0x27 ∷ 0x1A ∷ subtype ∷ []) (outputAt (now (out .entry)) at) ⌝ }
+{
+    let a = put_head(out, at, 127, len);
+    let b = put_octet(out, a, 0xE0);
+    let c = put_octet(out, b, 0x27);
+    let d = put_octet(out, c, 0x1A);
+    put_octet(out, d, subtype)
+}
+
+// TLV 1 (L3).
+pub fn put_chassis(out: &mut [u8], chassis: [u8; 6]) -> usize
+    ensures { λ r. ⌜ outputAt (now (out .exit)) r ≡ puts (written (chassisTlv chassis)) (outputAt (now (out .entry)) 0) ⌝ }
+{
+    let a = put_head(out, 0, 1, 7);
+    put_counted(out, a, 4, &chassis)
+}
+
+// TLV 2 (L4).
+pub fn put_port(out: &mut [u8], at: usize, subtype: u8, text: &[u8], p: Part) -> usize
+    ensures { λ r. ⌜ outputAt (now (out .exit)) r ≡ puts (written (portTlv subtype (textOf (now (text .entry)) p))) (outputAt (now (out .entry)) at) ⌝ }
+{
+    let port = text_of(text, p);
+    let a = put_head(out, at, 2, 1 + port.len());
+    put_counted(out, a, subtype, port)
+}
+
+// TLV 3 (L5).
+pub fn put_seconds(out: &mut [u8], at: usize, seconds: u16) -> usize
+    ensures { λ r. ⌜ outputAt (now (out .exit)) r ≡ puts (written (secondsTlv seconds)) (outputAt (now (out .entry)) at) ⌝ }
+{
+    let a = put_head(out, at, 3, 2);
+    let b = put_octet(out, a, (seconds / 256) as u8);
+    put_octet(out, b, (seconds % 256) as u8)
+}
+
+// The port description, if it is not empty (T10).
+pub fn put_words(out: &mut [u8], at: usize, text: &[u8], p: Part) -> usize
+    ensures { λ r. ⌜ outputAt (now (out .exit)) r ≡ puts (octetsOf (unlessEmpty wordsTlv (textOf (now (text .entry)) p))) (outputAt (now (out .entry)) at) ⌝ }
+{
+    let words = text_of(text, p);
+    let n = words.len();
+    if n == 0 {
+        return at;
+    }
+    let a = put_head(out, at, 4, n);
+    put_all(out, a, words)
+}
+
+// Device information, if its string is not empty (T2, T3).
+pub fn put_device(out: &mut [u8], at: usize, id: u8, text: &[u8], p: Part) -> usize
+    requires { ⌜ length (textOf (now text) p) ≤ 255 ⌝ }
+    ensures { λ r. ⌜ outputAt (now (out .exit)) r ≡ puts (octetsOf (unlessEmpty (deviceTlv id) (textOf (now (text .entry)) p))) (outputAt (now (out .entry)) at) ⌝ }
+{
+    let string = text_of(text, p);
+    let n = string.len();
+    if n == 0 {
+        return at;
+    }
+    let a = put_ttc(out, at, 1, 6 + n);
+    let b = put_octet(out, a, id);
+    put_counted(out, b, n as u8, string)
+}
+
+// Link information (T7).
+pub fn put_table(
+    out: &mut [u8],
+    at: usize,
+    interface: &[u8],
+    port: &[u8],
+    addresses: &[u8],
+) -> usize
+    requires { ⌜ tableSound (length (now interface)) (length (now port)) (length (now addresses)) ≡ true ⌝ }
+    ensures { λ r. ⌜ outputAt (now (out .exit)) r ≡ puts (octetsOf (ifLinked (some (linkInfo (now (interface .entry)) (now (port .entry)) (now (addresses .entry)))))) (outputAt (now (out .entry)) at) ⌝ }
+{
+    let n = interface.len();
+    let m = port.len();
+    let k = addresses.len();
+    let a = put_ttc(out, at, 2, 7 + n + m + k);
+    let b = put_counted(out, a, n as u8, interface);
+    let c = put_counted(out, b, m as u8, port);
+    put_counted(out, c, (k / 6) as u8, addresses)
+}
+
+// An address list (T8).
+pub fn put_listed(out: &mut [u8], at: usize, addresses: &[u8]) -> usize
+    requires { ⌜ listedSound (length (now addresses)) ≡ true ⌝ }
+    ensures { λ r. ⌜ outputAt (now (out .exit)) r ≡ puts (octetsOf (ifListed (some (now (addresses .entry))))) (outputAt (now (out .entry)) at) ⌝ }
+{
+    let k = addresses.len();
+    let a = put_ttc(out, at, 3, 5 + k);
+    put_counted(out, a, (k / 6) as u8, addresses)
+}
