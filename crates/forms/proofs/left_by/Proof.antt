@@ -1,5 +1,6 @@
 -- `forms::left_by` meets its contract: a division counts one form down, and none below 0.
 -- Each return cites the tests that led to it.
+use mathlib.Core.Path.{refl}
 use borrow.Author.Tests.{eq-eqb, ne-eqb}
 use Rattle.forms.specs.Form.{left}
 use borrow.Author.Needs.{needs}
@@ -8,18 +9,18 @@ use Rattle.forms.proofs.left_by.Tie as tie
 
 returns : tie.Need-returns
 unfolding left
-returns c = rw (ne-eqb _ _ (c .if1 .taken))
+returns c = rw (ne-eqb _ _ (c .if1 .taken)) refl
 
 returns-2 : tie.Need-returns-2
 unfolding left
-returns-2 c = rw (eq-eqb _ _ (c .before .if1 .left), c .if2 .taken)
+returns-2 c = rw (eq-eqb _ _ (c .before .if1 .left), c .if2 .taken) refl
 
 sub-result : tie.Need-sub-result
 sub-result c = search needs
 
 returns-3 : tie.Need-returns-3
 unfolding left
-returns-3 c = rw (eq-eqb _ _ (c .before .if1 .left))
+returns-3 c = rw (eq-eqb _ _ (c .before .if1 .left)) refl
 
 pub left-by-spec : {M : Type 1} → statement M
 left-by-spec = tie.close (tie.spec returns returns-2 sub-result returns-3)
