@@ -1,4 +1,5 @@
--- The laws of what is written: the octets of each TLV, and their number.
--- They serve the proofs of the functions, and the round trip of the writer.
+-- The laws of what is written: the octets of the whole, and of the fields that may be absent.
+-- They serve the proofs of the functions. Sole says that two answers of one contract coincide.
 pub mod EncodeLaws
-pub mod SizeLaws
+pub mod PutLaws
+pub mod Sole

@@ -4,7 +4,7 @@ use Prim.Native.Nat.{ℕ}
 use mathlib.Core.List.{List, [], _∷_, _++_}
 use Rattle.walk.specs.Walk.{Tlv}
 use Rattle.reading.specs.Meaning.{Said}
-use Rattle.tlvs.specs.Tlvs.{octetsOf, chassisTlv, portTlv, secondsTlv, endTlv, wordsTlv, deviceTlv, unlessEmpty, ifLinked, ifListed}
+use Rattle.tlvs.specs.Tlvs.{octetsOf, chassisTlv, portTlv, secondsTlv, endTlv, wordsTlv, deviceTlv, unlessEmpty, ifLinked, ifListed, countable, countableLink, countableList}
 
 unfoldable pub fieldTlvs : Said → List Tlv
 fieldTlvs d =
@@ -20,3 +20,20 @@ tlvsOf d = chassisTlv (d .chassis) ∷ portTlv (d .subtype) (d .port) ∷ second
 
 unfoldable pub encode : Said → List ℕ
 encode d = octetsOf (tlvsOf d)
+
+-- what is said, but for what no octet can count; a description that keeps the rules has nothing of the kind
+abbrev pub countableOf : Said → Said
+countableOf d =
+    record {
+      chassis = d .chassis;
+      subtype = d .subtype;
+      port = d .port;
+      seconds = d .seconds;
+      words = d .words;
+      category = countable (d .category);
+      manufacturer = countable (d .manufacturer);
+      model = countable (d .model);
+      number = countable (d .number);
+      link = countableLink (d .link);
+      list = countableList (d .list);
+    }

@@ -1,23 +1,26 @@
 -- Laws of the rules: what a description that keeps them has, and the tests as the code makes them.
 -- `kept` takes the rules apart once; everything else cites its fields.
 use Prim.Native.Nat.{ℕ, _+_, _-_, _%_, _≤_}
-use mathlib.Core.Path.{_≡_, refl}
+use mathlib.Core.Path.{_≡_, refl, sym, ap, _∙_}
 use mathlib.Core.List.{List, []}
-use mathlib.Core.Bool.{Bool, true, false}
+use mathlib.Core.Bool.{Bool, true, false, not}
 use native.Mathlib.Omega.{arith}
 use borrow.Author.Tests.{leb-true, leb-false, eqb-true, le-leb, lt-leb}
 use lib.ListN.{length}
 use lib.Dec.{leb, eqb}
 use Rattle.tally.specs.Tests.{pick, all}
 use Rattle.tally.proofs.TestsLaws.{both-true, held}
-use Rattle.fields.specs.Text.{textOk}
+use Rattle.strings.specs.Text.{textOk}
 use Rattle.fields.specs.Field.{descriptionOf, fieldOf}
 use Rattle.fields.specs.declared.Field.the-variants.{Skipped, Malformed, Says}
-use Rattle.lldpdu.specs.Outline.{textOf}
-use Rattle.lldpdu.specs.declared.outline.Part.{Part}
+use Rattle.text.specs.Part.{textOf}
+use Rattle.text.specs.declared.Part.{Part}
+use Rattle.reading.specs.Reading.{linkParts}
 use Rattle.reading.specs.Meaning.{Said, linkMeant, listMeant}
+use Rattle.reading.proofs.MeaningLaws.{parts-absent, parts-there}
 use Rattle.reading.specs.declared.Link.{Link}
 use Rattle.reading.specs.declared.Link.the-variants as link-is
+use Rattle.reading.specs.declared.LinkParts.{LinkParts}
 use Rattle.reading.specs.declared.AddressList.{AddressList}
 use Rattle.reading.specs.declared.AddressList.the-variants as list-is
 use Rattle.description.specs.Rules.{portRules, wordsSound, stringRules, tableRules, tableSound, linkSound, listedSound, listSound, noLink, noList, goodbyeRules, liveRules, rules, soundOf}
@@ -95,6 +98,10 @@ pub no-link-same : (s : List ℕ) (l : Link) → noLink (linkMeant [] l) ≡ noL
 no-link-same s link-is.Absent = refl
 no-link-same s (link-is.Table i p a) = refl
 
+pub no-link-there : (l : Link) {t : LinkParts} → t ≡ linkParts l → not (t .there) ≡ noLink (linkMeant [] l)
+no-link-there link-is.Absent e = ap (λ (x : LinkParts). not (x .there)) e
+no-link-there (link-is.Table i p a) e = ap (λ (x : LinkParts). not (x .there)) e
+
 pub no-list-same : (s : List ℕ) (l : AddressList) → noList (listMeant [] l) ≡ noList (listMeant s l)
 no-list-same s list-is.Absent = refl
 no-list-same s (list-is.Listed a) = refl
@@ -141,9 +148,13 @@ module _ (b : List ℕ) where
       go false q = refl
 
 -- link information and an address list are judged by the counts that the code has read
-pub table-sound : (s : List ℕ) {l : Link} {i p a : Part} → l ≡ link-is.Table i p a → {n m k : ℕ} → n ≡ length (textOf s i) → m ≡ length (textOf s p) → k ≡ length (textOf s a)
-    → linkSound (linkMeant s l) ≡ tableSound n m k
-table-sound s e x y z = rw (e, x, y, z)
+module _ (s : List ℕ) (l : Link) {t : LinkParts} (e : t ≡ linkParts l) where
+  pub absent-sound : t .there ≡ false → true ≡ linkSound (linkMeant s l)
+  absent-sound h = sym (ap linkSound (parts-absent s l e h))
+
+  pub table-sound : t .there ≡ true → {n m k : ℕ} → n ≡ length (textOf s (t .interface)) → m ≡ length (textOf s (t .port)) → k ≡ length (textOf s (t .addresses))
+      → linkSound (linkMeant s l) ≡ tableSound n m k
+  table-sound h x y z = ap linkSound (parts-there s l e h) ∙ rw (x, y, z)
 
 pub listed-sound : (s : List ℕ) {l : AddressList} {a : Part} → l ≡ list-is.Listed a → {k : ℕ} → k ≡ length (textOf s a) → listSound (listMeant s l) ≡ listedSound k
 listed-sound s e z = rw (e, z)

@@ -7,7 +7,7 @@ use mathlib.Core.Option.{Option, none, some}
 use lib.ListN.{length}
 use lib.Dec.{leb, eqb}
 use Rattle.tally.specs.Tests.{pick, both, all}
-use Rattle.fields.specs.Text.{textOk}
+use Rattle.strings.specs.Text.{textOk}
 use Rattle.found.specs.Contents.{LinkInfo}
 use Rattle.reading.specs.Meaning.{Said}
 

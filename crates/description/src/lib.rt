@@ -5,18 +5,19 @@ ghost use mathlib.Core.List.{[]};
 ghost use lib.ListN.{length};
 ghost use lib.Dec.{eqb};
 ghost use Rattle.tally.specs.Tests.{all};
-ghost use Rattle.lldpdu.specs.Outline.{textOf};
+ghost use Rattle.text.specs.Part.{textOf};
 ghost use Rattle.reading.specs.Meaning.{linkMeant, listMeant, saidBy};
 ghost use Rattle.description.specs.Rules.{portSound, wordsSound, stringRules, tableSound, linkSound, listedSound, listSound, noLink, noList, goodbyeRules, liveRules, timelyOf, soundOf};
 use fields::Field;
 use fields::field_of;
-use lldpdu::Part;
-use lldpdu::text_of;
 use reading::AddressList;
 use reading::Description;
 use reading::Link;
+use reading::link_parts;
+use text::Part;
+use text::text_of;
 
-pub fn count_of(text: &[u8], p: Part) -> usize
+fn count_of(text: &[u8], p: Part) -> usize
     ensures { λ r. ⌜ r ≡ length (textOf (now (text .entry)) p) ⌝ }
 {
     text_of(text, p).len()
@@ -97,18 +98,15 @@ fn table_sound(n: usize, m: usize, a: usize) -> bool
 fn link_sound(text: &[u8], l: Link) -> bool
     ensures { λ r. ⌜ r ≡ linkSound (linkMeant (now (text .entry)) l) ⌝ }
 {
-    match l {
-        Link::Absent => true,
-        Link::Table {
-            interface,
-            port,
-            addresses,
-        } => table_sound(
-            count_of(text, interface),
-            count_of(text, port),
-            count_of(text, addresses),
-        ),
+    let t = link_parts(l);
+    if t.there {
+        return table_sound(
+            count_of(text, t.interface),
+            count_of(text, t.port),
+            count_of(text, t.addresses),
+        );
     }
+    true
 }
 
 // An address list with a octets of addresses (T8, W5).
@@ -134,14 +132,7 @@ fn list_sound(text: &[u8], l: AddressList) -> bool
 fn no_link(l: Link) -> bool
     ensures { λ r. ⌜ r ≡ noLink (linkMeant [] l) ⌝ }
 {
-    match l {
-        Link::Absent => true,
-        Link::Table {
-            interface: _,
-            port: _,
-            addresses: _,
-        } => false,
-    }
+    !link_parts(l).there
 }
 
 fn no_list(l: AddressList) -> bool

@@ -11,13 +11,14 @@ use lib.ListN.{length, getD}
 use lib.Dec.{leb, ltb, eqb}
 use Rattle.tally.specs.Tests.{pick, both, all}
 use Rattle.tally.proofs.TestsLaws.{both-true}
-use Rattle.fields.specs.Text.{textOk}
-use Rattle.fields.specs.Device.{wantedOf, onWanted, deviceOf}
+use Rattle.strings.specs.Text.{textOk}
+use Rattle.strings.specs.Wants.{wantedOf}
+use Rattle.fields.specs.Device.{onWanted, deviceOf}
 use Rattle.links.specs.Link.{linkOk, listOk}
 use Rattle.fields.specs.Field.{link, topics, descriptionOf, linkOf, listOf, isTtc, ttcOf, fieldOf}
 use Rattle.links.proofs.LinkLaws.{link-has}
-use Rattle.fields.specs.declared.Wanted.{Wanted}
-use Rattle.fields.specs.declared.Wanted.the-variants.{Text, Free, Vendor}
+use Rattle.strings.specs.declared.Wanted.{Wanted}
+use Rattle.strings.specs.declared.Wanted.the-variants.{Text, Free, Vendor}
 use Rattle.fields.specs.declared.Field.{Field}
 use Rattle.fields.specs.declared.Field.the-variants.{Skipped, Malformed, Says}
 

@@ -1,6 +1,5 @@
 -- The laws of this crate's definitions.
 -- `field-fits` of FieldLaws is what the reader needs.
-pub mod TextLaws
 pub mod DeviceLaws
 pub mod FieldLaws
 pub mod Sole

@@ -6,7 +6,7 @@ use mathlib.Core.Bool.{Bool}
 use lib.ListN.{length, getD}
 use lib.Dec.{leb, eqb}
 use Rattle.tally.specs.Tests.{pick, both, all}
-use Rattle.fields.specs.Text.{textOk}
+use Rattle.strings.specs.Text.{textOk}
 use Rattle.fields.specs.Device.{deviceOf}
 use Rattle.links.specs.Link.{linkOk, listOk}
 use Rattle.fields.specs.declared.Field.{Field}

@@ -1,11 +1,13 @@
 // Fields: what one TLV behind the first three says, from its own information string and nothing behind it.
 // Port description (type 4) and the TTC fields of subtypes 1 to 3; everything else is skipped.
 ghost use mathlib.Core.Path.{_≡_};
-ghost use Rattle.fields.specs.Text.{charOk, textOk};
-ghost use Rattle.fields.specs.Device.{wantedOf, deviceOf};
+ghost use Rattle.fields.specs.Device.{deviceOf};
 ghost use Rattle.fields.specs.Field.{descriptionOf, linkOf, listOf, isTtc, ttcOf, fieldOf};
 use links::link_fits;
 use octets::octet;
+use strings::Wanted;
+use strings::is_text;
+use strings::wanted_of;
 
 // What a field can be about. Topics 1 to 4 are the device information of that ID.
 pub const PORT_DESCRIPTION: usize = 0;
@@ -32,29 +34,6 @@ pub enum Field {
     Says { topic: usize, skip: usize },
 }
 
-// An octet that a port description may have (T10).
-fn printable(b: u8) -> bool
-    ensures { λ r. ⌜ r ≡ charOk b ⌝ }
-{
-    match b {
-        32..=33 | 35..=37 | 39..=59 | 61..=61 | 63..=90 | 95..=95 | 97..=122 => true,
-        _ => false,
-    }
-}
-
-fn is_text(part: &[u8]) -> bool
-    ensures { λ r. ⌜ r ≡ textOk (now (part .entry)) ⌝ }
-{
-    let mut i = 0;
-    while i < part.len() {
-        if !printable(part[i]) {
-            return false;
-        }
-        i += 1;
-    }
-    true
-}
-
 fn description(part: &[u8]) -> Field
     ensures { λ r. ⌜ r ≡ descriptionOf (now (part .entry)) ⌝ }
 {
@@ -68,29 +47,6 @@ fn description(part: &[u8]) -> Field
         }
     } else {
         Field::Malformed
-    }
-}
-
-// What the ID of a device information field asks of its string.
-pub enum Wanted {
-    // a string of 1 to so many octets (T3)
-    Text(u8),
-    // a string of any length: IDs that are not read here, and reserved ones (T4, T5)
-    Free,
-    // nothing: the field is the vendor's (T6)
-    Vendor,
-}
-
-fn wanted_of(id: u8) -> Wanted
-    ensures { λ r. ⌜ r ≡ wantedOf id ⌝ }
-{
-    match id {
-        1 => Wanted::Text(255),
-        2 => Wanted::Text(6),
-        3 | 4 => Wanted::Text(31),
-        255 => Wanted::Vendor,
-        20..=27 | 50..=54 | 80 => Wanted::Free,
-        0 | 5..=19 | 28..=49 | 55..=79 | 81..=254 => Wanted::Free,
     }
 }
 

@@ -14,7 +14,8 @@ use Rattle.tally.proofs.TestsLaws.{both-end, held}
 use Rattle.whole.specs.Whole.{zeros, filled}
 use Rattle.whole.proofs.WholeLaws.{zeros-replicate, filled-front, filled-length}
 use Rattle.lldpdu.specs.Extent.{portLength, extentOf}
-use Rattle.lldpdu.specs.Outline.{textOf, outlineAt, outlineOf}
+use Rattle.lldpdu.specs.Outline.{outlineAt, outlineOf}
+use Rattle.text.specs.Part.{textOf}
 use Rattle.lldpdu.proofs.ExtentLaws.{good}
 use Rattle.lldpdu.proofs.Stable.{sized, extent-stable, front, outline-stable}
 use Rattle.walk.specs.declared.Extent.{Extent}

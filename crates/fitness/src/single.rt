@@ -9,11 +9,11 @@ ghost use Rattle.place.specs.State.{octets, at, state, whoAt, isOf};
 ghost use Rattle.fitness.specs.Fit.{single};
 ghost use Rattle.marks.specs.Marks.{Marked};
 use lldpdu::outline_lldpdu;
-use lldpdu::text_of;
 use numbers::PLACES;
 use numbers::Table;
 use place::is_of;
 use place::lldpdu_at;
+use text::text_of;
 
 // Whether place j has a record with the identity of place i.
 fn is_twin(t: Table, buffer: &[u8], i: usize, j: usize) -> bool

@@ -1,33 +1,49 @@
--- Forms of what is printed (P2), divided by `|`: octets that are put as they stand, and marks that are filled in.
--- `#` is a value in decimal; `%` and `~` are octets of a text beside the form, in hex and in hex joined by `-`.
+-- Forms of what is printed, divided by `|`: octets that are put as they stand, and marks that are filled in.
+-- Only the form that is wanted is put. Forms are counted down to it: 1 is left in it, 0 behind it.
 use Prim.Native.Nat.{ℕ, _+_, _-_}
 use mathlib.Core.List.{List, [], _∷_, _++_}
 use lib.ListN.{getD}
 use lib.Dec.{eqb}
 use Rattle.tally.specs.Tests.{pick}
-use Rattle.lldpdu.specs.Outline.{part, textOf}
+use Rattle.text.specs.Part.{part, textOf}
 use Rattle.line.specs.Decimal.{decimal}
-use Rattle.line.specs.Hex.{spelled, joined}
+use Rattle.line.specs.Hex.{hexesOrStop, joined}
 
--- what an octet stands for, in the form that is wanted, where 1 is left, by the next two values: a number, or a part
-unfoldable pub marked : ℕ → ℕ → ℕ → ℕ → List ℕ → List ℕ
-marked w b first second text =
-    pick (eqb w 1) (
-    pick (eqb b 124) [] (
-    pick (eqb b 35) (decimal first) (
-    pick (eqb b 37) (spelled (textOf text (part first second))) (
-    pick (eqb b 126) (joined (textOf text (part first second))) (b ∷ []))))) []
+-- `#`: a value in decimal
+abbrev pub numberMark : ℕ
+numberMark = 35
+
+-- `%`: a part of the text in hex; `~`: the same joined by `-`
+abbrev pub hexMark : ℕ
+hexMark = 37
+
+abbrev pub joinedMark : ℕ
+joinedMark = 126
+
+-- `|`: the next form begins
+abbrev pub nextForm : ℕ
+nextForm = 124
+
+-- what an octet b stands for where so many forms are left, by the next two values: a number, or the start and the length of a part
+unfoldable pub standsFor : ℕ → ℕ → ℕ → ℕ → List ℕ → List ℕ
+standsFor left b first second text =
+    pick (eqb left 1) (
+    pick (eqb b nextForm) [] (
+    pick (eqb b numberMark) (decimal first) (
+    pick (eqb b hexMark) (hexesOrStop (textOf text (part first second))) (
+    pick (eqb b joinedMark) (joined (textOf text (part first second))) (b ∷ []))))) []
 
 -- how many values it takes
-unfoldable pub taken : ℕ → ℕ → ℕ
-taken w b = pick (eqb w 1) (pick (eqb b 35) 1 (pick (eqb b 37) 2 (pick (eqb b 126) 2 0))) 0
+unfoldable pub valuesTaken : ℕ → ℕ → ℕ
+valuesTaken left b = pick (eqb left 1) (pick (eqb b numberMark) 1 (pick (eqb b hexMark) 2 (pick (eqb b joinedMark) 2 0))) 0
 
--- how many forms are left behind it, with the one that is wanted
-unfoldable pub left : ℕ → ℕ → ℕ
-left w b = pick (eqb b 124) (w - 1) w
+-- how many forms are left behind it
+unfoldable pub formsLeft : ℕ → ℕ → ℕ
+formsLeft left b = pick (eqb b nextForm) (left - 1) left
 
--- form number w, counted from 1, with the values from place k on; a value that is not there counts as 0
+-- the forms, where so many are left and the values from place k on; with w left at the start it is form number w, counted from 1
+-- a value that is not there counts as 0
 unfoldable pub formed : List ℕ → ℕ → ℕ → List ℕ → List ℕ → List ℕ
-formed [] w k values text = []
-formed (b ∷ forms) w k values text =
-    marked w b (getD values k 0) (getD values (k + 1) 0) text ++ formed forms (left w b) (k + taken w b) values text
+formed [] left k values text = []
+formed (b ∷ forms) left k values text =
+    standsFor left b (getD values k 0) (getD values (k + 1) 0) text ++ formed forms (formsLeft left b) (k + valuesTaken left b) values text

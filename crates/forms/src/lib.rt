@@ -3,13 +3,22 @@
 ghost use mathlib.Core.Path.{_≡_};
 ghost use lib.ListN.{getD};
 ghost use Rattle.output.specs.Output.{outputAt, puts};
-ghost use Rattle.forms.specs.Form.{marked, taken, left, formed};
+ghost use Rattle.forms.specs.Form.{standsFor, valuesTaken, formsLeft, formed};
+use line::put_hexes;
 use line::put_joined;
 use line::put_number;
-use line::put_octets;
-use lldpdu::Part;
-use lldpdu::text_of;
 use output::put_octet;
+use text::Part;
+use text::text_of;
+
+// The marks, and the octet between two forms. None of the four can be printed as it stands.
+const NUMBER: u8 = b'#';
+
+const HEX: u8 = b'%';
+
+const JOINED: u8 = b'~';
+
+const NEXT: u8 = b'|';
 
 // The value at a place, 0 past the end.
 fn value_at(values: &[usize], k: usize) -> usize
@@ -18,57 +27,57 @@ fn value_at(values: &[usize], k: usize) -> usize
     if k < values.len() { values[k] } else { 0 }
 }
 
-// How many values an octet of a form takes.
-fn taken_by(which: usize, mark: u8) -> usize
-    ensures { λ r. ⌜ r ≡ taken which mark ⌝ }
+// How many values an octet of the forms takes, where so many forms are left.
+fn values_taken(left: usize, mark: u8) -> usize
+    ensures { λ r. ⌜ r ≡ valuesTaken left mark ⌝ }
 {
-    if which != 1 {
+    if left != 1 {
         return 0;
     }
-    if mark == 35 {
+    if mark == NUMBER {
         return 1;
     }
-    if mark == 37 {
+    if mark == HEX {
         return 2;
     }
-    if mark == 126 {
+    if mark == JOINED {
         return 2;
     }
     0
 }
 
-// How many forms there are yet to come, with the one that is wanted, behind an octet.
-fn left_by(which: usize, mark: u8) -> usize
-    ensures { λ r. ⌜ r ≡ left which mark ⌝ }
+// How many forms are left behind an octet, where so many were left at it.
+fn forms_left(left: usize, mark: u8) -> usize
+    ensures { λ r. ⌜ r ≡ formsLeft left mark ⌝ }
 {
-    if mark != 124 {
-        return which;
+    if mark != NEXT {
+        return left;
     }
-    if which == 0 {
+    if left == 0 {
         return 0;
     }
-    which - 1
+    left - 1
 }
 
-// What an octet of a form stands for, given the next two values.
+// What an octet of the forms stands for, given the next two values.
 fn put_mark(
     line: &mut [u8],
     at: usize,
-    which: usize,
+    left: usize,
     mark: u8,
     first: usize,
     second: usize,
     text: &[u8],
 ) -> usize
-    ensures { λ r. ⌜ outputAt (now (line .exit)) r ≡ puts (marked which mark first second (now (text .entry))) (outputAt (now (line .entry)) at) ⌝ }
+    ensures { λ r. ⌜ outputAt (now (line .exit)) r ≡ puts (standsFor left mark first second (now (text .entry))) (outputAt (now (line .entry)) at) ⌝ }
 {
-    if which != 1 {
+    if left != 1 {
         return at;
     }
-    if mark == 124 {
+    if mark == NEXT {
         return at;
     }
-    if mark == 35 {
+    if mark == NUMBER {
         return put_number(line, at, first as u64);
     }
     let part = text_of(
@@ -78,18 +87,18 @@ fn put_mark(
             len: second,
         },
     );
-    if mark == 37 {
-        return put_octets(line, at, part);
+    if mark == HEX {
+        return put_hexes(line, at, part);
     }
-    if mark == 126 {
+    if mark == JOINED {
         return put_joined(line, at, part);
     }
     put_octet(line, at, mark)
 }
 
-// One of several forms, counted from 1, which are divided by `|`. In a form `#` stands for a value in decimal, `%` for
-// octets of the text in hex, or a full stop where there are none, `~` for octets in hex joined by `-`. Two values are
-// the start and the length of such octets. All else is put as it stands.
+// One of several forms, counted from 1, which are divided by `|`. In a form `#` stands for a value in decimal, `%` for a
+// part of the text in hex, or a full stop where it has no octets, `~` for a part in hex joined by `-`. The start and the length
+// of a part are two values. All else is put as it stands.
 pub fn put_form(
     line: &mut [u8],
     at: usize,
@@ -114,8 +123,8 @@ pub fn put_form(
             value_at(values, k + 1),
             text,
         );
-        k += taken_by(left, mark);
-        left = left_by(left, mark);
+        k += values_taken(left, mark);
+        left = forms_left(left, mark);
     }
     end
 }

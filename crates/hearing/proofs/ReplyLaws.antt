@@ -12,7 +12,8 @@ use lib.Dec.{eqb, ltb}
 use Rattle.tally.specs.Tests.{pick, both}
 use Rattle.tally.proofs.TestsLaws.{not-below, below-or-at}
 use Rattle.lldpdu.specs.Extent.{extentOf}
-use Rattle.lldpdu.specs.Outline.{textOf, refusedOutline, outlineOf}
+use Rattle.lldpdu.specs.Outline.{refusedOutline, outlineOf}
+use Rattle.text.specs.Part.{textOf}
 use Rattle.walk.specs.declared.Extent.{Extent}
 use Rattle.walk.specs.declared.Extent.the-variants as extent-is
 use Rattle.lldpdu.specs.declared.outline.Outline.{Outline}

@@ -15,8 +15,6 @@ use fitness::UNFIT;
 use fitness::is_fit;
 use lldpdu::Extent;
 use lldpdu::Outline;
-use lldpdu::Part;
-use lldpdu::text_of;
 use numbers::PLACES;
 use numbers::PORTS;
 use numbers::Table;
@@ -28,6 +26,8 @@ use place::store;
 use reader::outline_frame;
 use rules::Reply;
 use rules::Room;
+use text::Part;
+use text::text_of;
 
 // The refusals of a new one for want of room (R7, R8).
 const PORT_FULL: u8 = 7;

@@ -5,7 +5,7 @@ use mathlib.Core.Path.{_≡_, refl}
 use mathlib.Core.List.{List, [], _∷_, _++_}
 use native.Mathlib.Omega.{arith}
 use lib.ListN.{length, drop, getD}
-use Rattle.line.specs.Hex.{hexOf, hexes, spelled, dashed, joined}
+use Rattle.line.specs.Hex.{hexOf, hexes, hexesOrStop, dashed, joined}
 
 pub hexes-step : (b : ℕ) (x : List ℕ) → hexes (b ∷ x) ≡ hexOf b ++ hexes x
 unfolding hexes
@@ -23,13 +23,13 @@ pub dashed-end : dashed [] ≡ []
 unfolding dashed
 dashed-end = refl
 
-pub spelled-none : (x : List ℕ) → length x ≡ 0 → (46 ∷ []) ≡ spelled x
-spelled-none [] e = refl
-spelled-none (b ∷ x) e = absurd (omega arith)
+pub stop-none : (x : List ℕ) → length x ≡ 0 → (46 ∷ []) ≡ hexesOrStop x
+stop-none [] e = refl
+stop-none (b ∷ x) e = absurd (omega arith)
 
-pub spelled-some : (x : List ℕ) → (length x ≡ 0 → ⊥) → hexes x ≡ spelled x
-spelled-some [] h = absurd (h refl)
-spelled-some (b ∷ x) h = refl
+pub stop-some : (x : List ℕ) → (length x ≡ 0 → ⊥) → hexes x ≡ hexesOrStop x
+stop-some [] h = absurd (h refl)
+stop-some (b ∷ x) h = refl
 
 pub joined-none : (x : List ℕ) → length x ≡ 0 → [] ≡ joined x
 joined-none [] e = refl

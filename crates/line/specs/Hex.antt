@@ -1,11 +1,11 @@
 -- Octets as they are printed (P2): two capital hex digits each, in ASCII.
--- An address and a port ID are joined by `-`; the stored answers spell octets without it.
+-- An address and a port ID are joined by `-`; the stored answers have octets without it.
 use Prim.Native.Nat.{ℕ, _+_, _/_, _%_}
 use mathlib.Core.List.{List, [], _∷_, _++_}
 use lib.Dec.{ltb}
 use Rattle.tally.specs.Tests.{pick}
 
--- 0 to 9, then A to F
+-- 0 to 9, then A to F, of a number below 16
 abbrev pub digitOf : ℕ → ℕ
 digitOf n = pick (ltb n 10) (48 + n) (55 + n)
 
@@ -17,9 +17,9 @@ hexes [] = []
 hexes (b ∷ x) = hexOf b ++ hexes x
 
 -- for the stored answers of the tests: a full stop where there are none
-abbrev pub spelled : List ℕ → List ℕ
-spelled [] = 46 ∷ []
-spelled (b ∷ x) = hexes (b ∷ x)
+abbrev pub hexesOrStop : List ℕ → List ℕ
+hexesOrStop [] = 46 ∷ []
+hexesOrStop (b ∷ x) = hexes (b ∷ x)
 
 -- each behind a `-`
 unfoldable pub dashed : List ℕ → List ℕ

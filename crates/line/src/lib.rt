@@ -4,7 +4,7 @@ ghost use mathlib.Core.Path.{_≡_};
 ghost use mathlib.Core.List.{_∷_};
 ghost use Prim.Native.Nat.{_<_};
 ghost use Rattle.output.specs.Output.{outputAt, puts};
-ghost use Rattle.line.specs.Hex.{digitOf, hexOf, spelled, joined};
+ghost use Rattle.line.specs.Hex.{digitOf, hexOf, hexesOrStop, joined};
 ghost use Rattle.line.specs.Decimal.{decimal};
 use output::put_octet;
 
@@ -13,17 +13,20 @@ pub fn put_number(line: &mut [u8], at: usize, n: u64) -> usize
     ensures { λ r. ⌜ outputAt (now (line .exit)) r ≡ puts (decimal n) (outputAt (now (line .entry)) at) ⌝ }
 {
     if n < 10 {
-        return put_octet(line, at, 48 + n as u8);
+        return put_octet(line, at, b'0' + n as u8);
     }
     let end = put_number(line, at, n / 10);
-    put_octet(line, end, 48 + (n % 10) as u8)
+    put_octet(line, end, b'0' + (n % 10) as u8)
 }
+
+// The digits from 10 on are letters.
+const LETTERS: u8 = b'A' - 10;
 
 fn digit_of(n: u8) -> u8
     requires { ⌜ n < 16 ⌝ }
     ensures { λ r. ⌜ r ≡ digitOf n ⌝ }
 {
-    if n < 10 { 48 + n } else { 55 + n }
+    if n < 10 { b'0' + n } else { LETTERS + n }
 }
 
 // An octet as two capital hex digits.
@@ -35,11 +38,11 @@ fn put_hex(line: &mut [u8], at: usize, b: u8) -> usize
 }
 
 // Octets in hex one behind the other, or a full stop where there are none, as the stored answers of the tests have them.
-pub fn put_octets(line: &mut [u8], at: usize, octets: &[u8]) -> usize
-    ensures { λ r. ⌜ outputAt (now (line .exit)) r ≡ puts (spelled (now (octets .entry))) (outputAt (now (line .entry)) at) ⌝ }
+pub fn put_hexes(line: &mut [u8], at: usize, octets: &[u8]) -> usize
+    ensures { λ r. ⌜ outputAt (now (line .exit)) r ≡ puts (hexesOrStop (now (octets .entry))) (outputAt (now (line .entry)) at) ⌝ }
 {
     if octets.len() == 0 {
-        return put_octet(line, at, 46);
+        return put_octet(line, at, b'.');
     }
     let mut end = at;
     for i in 0..octets.len() {
@@ -51,7 +54,7 @@ pub fn put_octets(line: &mut [u8], at: usize, octets: &[u8]) -> usize
 fn put_dashed(line: &mut [u8], at: usize, b: u8) -> usize
     ensures { λ r. ⌜ outputAt (now (line .exit)) r ≡ puts (45 ∷ hexOf b) (outputAt (now (line .entry)) at) ⌝ }
 {
-    let end = put_octet(line, at, 45);
+    let end = put_octet(line, at, b'-');
     put_hex(line, end, b)
 }
 

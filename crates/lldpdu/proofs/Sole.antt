@@ -1,26 +1,15 @@
 -- For each public function of the lldpdu: two answers that its contract allows are one.
 -- The contracts are the toolchain's own reading of the source (`Post` of each function's `Reads`), so nothing is said twice.
-use borrow.Fn.Kinds.{Dens, resT, endedOf}
-use contract.Lifetimes.{Lfts}
-use denote.Ref.{now}
-use denote.Triple.Clauses.{AtExit}
-use mathlib.Core.Path.{_≡_, sym, _∙_}
+use mathlib.Core.Path.{sym, _∙_}
 use Rattle.tally.proofs.Sole.{Sole}
 use Rattle.lldpdu.proofs.extent.port_length.Kinds as port-length-kinds
 use Rattle.lldpdu.proofs.extent.port_length.Reads as port-length
 use Rattle.lldpdu.proofs.extent.extent_of.Kinds as extent-of-kinds
 use Rattle.lldpdu.proofs.extent.extent_of.Reads as extent-of
-use Rattle.lldpdu.proofs.outline.text_of.Kinds as text-of-kinds
-use Rattle.lldpdu.proofs.outline.text_of.Reads as text-of
 use Rattle.lldpdu.proofs.outline.refused_outline.Kinds as refused-outline-kinds
 use Rattle.lldpdu.proofs.outline.refused_outline.Reads as refused-outline
 use Rattle.lldpdu.proofs.outline.outline_lldpdu.Kinds as outline-lldpdu-kinds
 use Rattle.lldpdu.proofs.outline.outline_lldpdu.Reads as outline-lldpdu
-
--- of a part that is handed back, the octets; where they lie in the caller's slice is the borrow checker's to say
-pub text-of-sole : (κs : Lfts 1) (a : Dens κs text-of-kinds.ps) (r q : resT text-of-kinds.r κs .Denot) (x y : AtExit (endedOf 1 text-of-kinds.ps text-of-kinds.r) κs)
-    → text-of.Post κs a r x → text-of.Post κs a q y → now r ≡ now q
-text-of-sole κs a r q x y e f = e ∙ sym f
 
 pub port-length-sole : Sole 1 port-length-kinds.ps port-length-kinds.r port-length.Post
 port-length-sole κs a r q x y e f = e ∙ sym f

@@ -2,21 +2,15 @@
 -- What stands beside a refusal is 0 throughout, so that a refusal fixes the whole answer (R12).
 use Prim.Native.Nat.{ℕ, _+_, _-_}
 use mathlib.Core.List.{List}
-use lib.ListN.{take, drop, getD, replicate}
+use lib.ListN.{getD, replicate}
 use Rattle.octets.specs.Numbers.{pairOf}
 use Rattle.octets.specs.Address.{sixAt}
 use Rattle.lldpdu.specs.Extent.{portLength, extentOf}
 use Rattle.walk.specs.declared.Extent.{Extent}
 use Rattle.walk.specs.declared.Extent.the-variants.{Refused, Octets}
-use Rattle.lldpdu.specs.declared.outline.Part.{Part}
+use Rattle.text.specs.Part.{part}
+use Rattle.text.specs.declared.Part.{Part}
 use Rattle.lldpdu.specs.declared.outline.Outline.{Outline}
-
-abbrev pub part : ℕ → ℕ → Part
-part start len = record { start = start; len = len }
-
--- the octets of a part of the text s
-abbrev pub textOf : List ℕ → Part → List ℕ
-textOf s p = take (p .len) (drop (p .start) s)
 
 abbrev pub noAddress : List ℕ
 noAddress = replicate 6 0

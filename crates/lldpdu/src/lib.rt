@@ -6,8 +6,6 @@ mod outline;
 pub use extent::extent_of;
 pub use extent::port_length;
 pub use outline::Outline;
-pub use outline::Part;
 pub use outline::outline_lldpdu;
 pub use outline::refused_outline;
-pub use outline::text_of;
 pub use walk::Extent;

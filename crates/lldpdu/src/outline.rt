@@ -1,35 +1,14 @@
 // The outline of an LLDPDU: validity, identity and seconds, without the fields behind them.
 // A refusal carries its number and nothing else: all that stands beside it is 0.
 ghost use mathlib.Core.Path.{_≡_};
-ghost use Rattle.lldpdu.specs.Outline.{textOf, refusedOutline, outlineOf};
+ghost use Rattle.lldpdu.specs.Outline.{refusedOutline, outlineOf};
 use crate::extent::extent_of;
 use crate::extent::port_length;
 use octets::octet;
 use octets::pair;
 use octets::six;
+use text::Part;
 use walk::Extent;
-
-// A part of the text that is lent beside it: of the LLDPDU for what was read.
-pub struct Part {
-    pub start: usize,
-    pub len: usize,
-}
-
-// The octets of a part; of one that reaches past the text, as much as there is.
-pub fn text_of(s: &[u8], p: Part) -> &[u8]
-    ensures { λ r. ⌜ now r ≡ textOf (now (s .entry)) p ⌝ }
-{
-    let start = p.start;
-    if s.len() <= start {
-        return &s[0..0];
-    }
-    let len = p.len;
-    if s.len() - start <= len {
-        return &s[start..];
-    }
-    let end = start + len;
-    &s[start..end]
-}
 
 pub struct Outline {
     pub extent: Extent,

@@ -7,12 +7,14 @@ use mathlib.Core.Bool.{Bool, true, false}
 use mathlib.Core.List.{List}
 use native.Mathlib.Omega.{arith}
 use borrow.Author.Tests.{eq-eqb, ne-eqb, le-leb, lt-leb, lt-ltb, le-ltb}
-use lib.ListN.{length, getD, take, drop}
+use lib.ListN.{length, getD, take, drop, length-take, length-drop}
+use lib.Seq.{take-all}
 use lib.Dec.{leb}
 use Rattle.tally.specs.Tests.{both}
 use Rattle.octets.specs.Numbers.{pairOf}
 use Rattle.whole.specs.Whole.{zeros}
-use Rattle.lldpdu.specs.Outline.{textOf, outlineOf}
+use Rattle.lldpdu.specs.Outline.{outlineOf}
+use Rattle.text.specs.Part.{textOf}
 use Rattle.walk.specs.declared.Extent.{Extent}
 use Rattle.walk.specs.declared.Extent.the-variants.{Refused, Octets}
 use Rattle.lldpdu.specs.declared.outline.Outline.{Outline}
@@ -91,11 +93,15 @@ module _ (p left : ℕ) (l rest : List ℕ) {o : Outline} (e : o ≡ outlineOf l
           unfolding checkUsed
           used-rest z = sym (rw (in-time, z))
 
-          pub used-fit : {c : ℕ} → zeros rest ≡ true → c ≡ markOf (ident p (o .chassis) (o .subtype) (textOf l (o .port))) → Mark c ≡ checkUsed p left l rest
+          pub used-fit : {c : ℕ} {t : List ℕ} → zeros rest ≡ true → c ≡ markOf (ident p (o .chassis) (o .subtype) t) → t ≡ textOf l (o .port) → Mark c ≡ checkUsed p left l rest
           unfolding checkUsed
-          used-fit z w = ap Mark (w ∙ ap markOf (outline-ident p l e)) ∙ sym (rw (in-time, z))
+          used-fit z w v = ap Mark (w ∙ ap (λ (i : List ℕ). markOf (ident p (o .chassis) (o .subtype) i)) v ∙ ap markOf (outline-ident p l e)) ∙ sym (rw (in-time, z))
 
 -- A place
+
+-- what follows n octets in a place of m, of which a short buffer may lack some
+pub rest-whole : (n m : ℕ) (l : List ℕ) → take (m - n) (drop n (take m l)) ≡ drop n (take m l)
+rest-whole n m l = take-all (m - n) (drop n (take m l)) (omega (arith, length-drop n (take m l), length-take m l))
 
 module _ (x : Place) where
   pub place-free : x .len ≡ 0 → checkFree (x .port) (x .seconds) (x .body) ≡ checkPlace x

@@ -3,7 +3,7 @@
 use Prim.Native.Nat.{ℕ, _+_, _<_}
 use mathlib.Core.Path.{_≡_, sym, ap, _∙_}
 use mathlib.Core.Logic.{⊎-elim}
-use mathlib.Core.Bool.{true, false}
+use mathlib.Core.Bool.{true, false, true≢false}
 use mathlib.Core.List.{List}
 use native.Mathlib.Nat.{eq-or-lt-of-le}
 use native.Mathlib.Omega.{arith}
@@ -44,14 +44,17 @@ module _ (s : State) where
               (eq-or-lt-of-le (omega arith));
         }
 
-    pub below-stop : Unfit ≡ checkPlace (at s i) → Checks s (record { fit = false; marks = marks })
-    unfolding checkPlace
-    below-stop e =
-        record {
-          told = sym (all-stop (λ k. okPlace (at s k)) i places h (unmarked (okPlace (at s i)) (markAt (at s i)) e));
-          marked = λ q. absurd (let z : _≡_ {A = ℕ} 0 1 = cc in omega arith);
-        }
+  pub below-stop : (i : ℕ) → i < places → Unfit ≡ checkPlace (at s i) → Checks s (record { fit = false; marks = replicate places 0 })
+  unfolding checkPlace
+  below-stop i h e =
+      record {
+        told = sym (all-stop (λ k. okPlace (at s k)) i places h (unmarked (okPlace (at s i)) (markAt (at s i)) e));
+        marked = λ q. absurd (true≢false (sym q));
+      }
 
   pub below-end : (marks : List ℕ) (i : ℕ) → i ≡ places → Below s marks i → Checks s (record { fit = true; marks = marks })
   below-end marks i e b =
-      record { told = sym (ap (allBelow (λ k. okPlace (at s k))) (sym e) ∙ b .fit); marked = λ q. record { long = b .long; right = λ k l. b .right k (omega arith) } }
+      record {
+        told = sym (ap (allBelow (λ k. okPlace (at s k))) (sym e) ∙ b .fit);
+        marked = λ q. record { long = b .long; right = λ k l. b .right k (omega arith) };
+      }

@@ -1,5 +1,5 @@
 -- When a place is fit by itself (N5 b, c): free and empty, or used by a whole valid LLDPDU with time left and zeros behind it.
--- That no identity occurs twice, and the shares, are asked of the whole table (fitness/specs/Fit.antt).
+-- The length of the buffer, the shares, and that no identity occurs twice are asked of the whole table (fitness/specs/Fit.antt).
 use Prim.Native.Nat.{ℕ}
 use mathlib.Core.Bool.{Bool, false}
 use mathlib.Core.List.{List, [], _∷_}

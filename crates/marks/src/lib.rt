@@ -1,20 +1,22 @@
 // Each place by itself (N5 b, c): whether it is fit, and then its mark, by which most identities are told apart.
-// Each LLDPDU is walked once, for validity, seconds and mark together. A caller has a buffer of the right length.
+// Each LLDPDU is walked once, for validity, seconds and mark together. A shorter buffer is looked at as far as it goes; its length is `fitness`'s.
 ghost use mathlib.Core.Path.{_≡_};
+ghost use mathlib.Core.Bool.{false};
 ghost use Prim.Native.Nat.{_<_};
-ghost use lib.ListN.{length};
+ghost use lib.ListN.{replicate};
 ghost use Rattle.numbers.specs.Sizes.{places};
-ghost use Rattle.place.specs.State.{octets, at, state, ident};
+ghost use Rattle.place.specs.State.{at, state, ident};
 ghost use Rattle.marks.specs.Marks.{lastTwo, markOf, checkFree, checkUsed, checkPlace, Checks};
 use lldpdu::Extent;
 use lldpdu::outline_lldpdu;
-use lldpdu::text_of;
 use numbers::PLACES;
 use numbers::PORTS;
 use numbers::Table;
 use octets::octet;
 use octets::pair;
 use place::SIZE;
+use text::Part;
+use text::text_of;
 use whole::all_zero;
 
 // What is found at a place that is looked at by itself: it is not fit, or its mark.
@@ -23,7 +25,7 @@ enum Check {
     Mark(u32),
 }
 
-// The marks of all places, where all of them are fit by themselves.
+// The marks of all places, where all of them are fit by themselves; else none.
 pub struct Marks {
     pub fit: bool,
     pub marks: [u32; PLACES],
@@ -93,12 +95,16 @@ fn check_used(p: u8, left: u16, l: &[u8], rest: &[u8]) -> Check
 }
 
 fn check_place(t: Table, buffer: &[u8], i: usize) -> Check
-    requires { ⌜ (i < places) × (length (now buffer) ≡ octets) ⌝ }
+    requires { ⌜ i < places ⌝ }
     ensures { λ r. ⌜ r ≡ checkPlace (at (state t (now (buffer .entry))) i) ⌝ }
 {
-    let from = i * SIZE;
-    let to = from + SIZE;
-    let b = &buffer[from..to];
+    let b = text_of(
+        buffer,
+        Part {
+            start: i * SIZE,
+            len: SIZE,
+        },
+    );
     let n = t.length[i] as usize;
     let p = t.port[i];
     if n == 0 {
@@ -110,12 +116,20 @@ fn check_place(t: Table, buffer: &[u8], i: usize) -> Check
     if n > SIZE {
         return Check::Unfit;
     }
-    check_used(p, t.seconds[i], &b[0..n], &b[n..])
+    let l = text_of(b, Part { start: 0, len: n });
+    let rest = text_of(
+        b,
+        Part {
+            start: n,
+            len: SIZE - n,
+        },
+    );
+    check_used(p, t.seconds[i], l, rest)
 }
 
 pub fn marks_of(t: Table, buffer: &[u8]) -> Marks
-    requires { ⌜ length (now buffer) ≡ octets ⌝ }
     ensures { λ r. ⌜ Checks (state t (now (buffer .entry))) r ⌝ }
+    ensures { λ r. ⌜ (r .fit ≡ false → r .marks ≡ replicate places 0) ⌝ }
 {
     let mut marks = [0u32; PLACES];
     for i in 0..PLACES {
@@ -123,7 +137,7 @@ pub fn marks_of(t: Table, buffer: &[u8]) -> Marks
             Check::Unfit => {
                 return Marks {
                     fit: false,
-                    marks: marks,
+                    marks: [0; PLACES],
                 };
             }
             Check::Mark(m) => {

@@ -1,8 +1,9 @@
--- Laws of octets put into an output: one string behind another, one octet, one turn of a loop, and a whole that fits.
+-- Laws of octets put into an output: one string behind another, one octet, one turn of a loop, a whole that fits and one that does not.
 -- A loop keeps one equation: what is left, put behind what was put, gives the output of the whole.
 use Prim.Native.Nat.{ℕ, suc, _+_, _<_, _≤_}
 use mathlib.Core.Path.{_≡_, refl, sym, ap, _∙_}
 use mathlib.Core.List.{List, [], _∷_, _++_}
+use native.Mathlib.Decide.{decLt}
 use native.Mathlib.Numerals.{add-one}
 use native.Mathlib.Omega.{arith}
 use borrow.Author.Tests.{lt-ltb, le-ltb}
@@ -45,7 +46,7 @@ pub more-full : (l : List ℕ) (at b : ℕ) → length l ≤ at → outputAt l a
 unfolding more
 more-full l at b h = sym (rw (le-ltb at (length l) h, set-out l at b h))
 
--- A loop: each octet of s is put as f spells it
+-- A loop: each octet of s is put as f prints it
 
 module _ (f : List ℕ → List ℕ) (g : ℕ → List ℕ) (step : (b : ℕ) (x : List ℕ) → f (b ∷ x) ≡ g b ++ f x) (end : f [] ≡ []) (s : List ℕ) (whole : Output) where
   pub puts-next : (i : ℕ) (o : Output) {p : Output} → i < length s → puts (f (drop i s)) o ≡ whole → p ≡ puts (g (getD s i 0)) o → puts (f (drop (i + 1) s)) p ≡ whole
@@ -81,3 +82,15 @@ puts-fits (b ∷ x) l at h =
     shifted n =
         rw (n, add-one at, take-suc-set l at b (omega arith), drop-set-lt (at + suc (length x)) l at b (omega arith))
         (ap (λ (k : List ℕ). outputAt k (at + suc (length x))) (append-snoc (take at l) b (x ++ drop (at + suc (length x)) l)))
+
+-- A whole that fills the output, or has no room in it, ends where the output ends
+
+pub puts-full : (x l : List ℕ) (at : ℕ) → at ≤ length l → length l ≤ at + length x → puts x (outputAt l at) .end ≡ length l
+unfolding puts
+puts-full [] l at h k = omega arith
+puts-full (b ∷ x) l at h k =
+    let n = length-set l at b in
+    elim (decLt at (length l)) [
+      | yes r ↦ ap (λ (o : Output). puts x o .end) (sym (more-room l at b r)) ∙ puts-full x (set l at b) (at + 1) (omega (arith, n)) (omega (arith, n)) ∙ n
+      | no f ↦ ap (λ (o : Output). puts x o .end) (sym (more-full l at b (omega arith))) ∙ puts-full x l at h (omega arith)
+    ]

@@ -1,3 +1,3 @@
 -- Two answers that the contract of `all_inside` allows are one.
--- The functions need no laws beside those of tests.
+-- Beside those of tests, the one law that a function needs stands with its proof.
 pub mod Sole

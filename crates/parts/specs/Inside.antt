@@ -5,7 +5,7 @@ use mathlib.Core.List.{List, [], _∷_}
 use mathlib.Core.Bool.{Bool, true}
 use lib.Dec.{leb}
 use Rattle.tally.specs.Tests.{both, all}
-use Rattle.lldpdu.specs.declared.outline.Part.{Part}
+use Rattle.text.specs.declared.Part.{Part}
 use Rattle.reading.specs.declared.Link.{Link}
 use Rattle.reading.specs.declared.Link.the-variants as link-is
 use Rattle.reading.specs.declared.AddressList.{AddressList}

@@ -2,10 +2,11 @@
 // An empty part must lie inside too; a part that begins at the end of the text does.
 ghost use mathlib.Core.Path.{_≡_};
 ghost use Rattle.parts.specs.Inside.{partInside, linkInside, listInside, allInside};
-use lldpdu::Part;
 use reading::AddressList;
 use reading::Description;
 use reading::Link;
+use reading::link_parts;
+use text::Part;
 
 // In a text of n octets.
 fn part_inside(n: usize, p: Part) -> bool
@@ -17,25 +18,18 @@ fn part_inside(n: usize, p: Part) -> bool
     p.len <= n - p.start
 }
 
+// The empty parts of an absent one lie inside every text.
 fn link_inside(n: usize, l: Link) -> bool
     ensures { λ r. ⌜ r ≡ linkInside n l ⌝ }
 {
-    match l {
-        Link::Absent => true,
-        Link::Table {
-            interface,
-            port,
-            addresses,
-        } => {
-            if !part_inside(n, interface) {
-                return false;
-            }
-            if !part_inside(n, port) {
-                return false;
-            }
-            part_inside(n, addresses)
-        }
+    let t = link_parts(l);
+    if !part_inside(n, t.interface) {
+        return false;
     }
+    if !part_inside(n, t.port) {
+        return false;
+    }
+    part_inside(n, t.addresses)
 }
 
 fn list_inside(n: usize, l: AddressList) -> bool

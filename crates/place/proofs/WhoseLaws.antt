@@ -10,7 +10,8 @@ use lib.Dec.{eqb}
 use Rattle.tally.specs.Tests.{all}
 use Rattle.tally.proofs.TestsLaws.{both-false}
 use Rattle.octets.specs.Address.{sameOctets}
-use Rattle.lldpdu.specs.Outline.{textOf, outlineOf}
+use Rattle.lldpdu.specs.Outline.{outlineOf}
+use Rattle.text.specs.Part.{textOf}
 use Rattle.lldpdu.specs.declared.outline.Outline.{Outline}
 use Rattle.rules.specs.Identity.{same}
 use Rattle.rules.specs.Events.{whose}

@@ -3,13 +3,14 @@
 use Prim.Native.Nat.{ℕ, zero, suc, _+_, _*_}
 use mathlib.Core.Path.{_≡_}
 use mathlib.Core.Bool.{Bool, not}
-use mathlib.Core.List.{List, _++_}
+use mathlib.Core.List.{List, [], _∷_, _++_}
 use lib.ListN.{length, getD, set, take, drop, replicate}
-use lib.Dec.{eqb}
-use Rattle.tally.specs.Tests.{both}
+use lib.Dec.{leb, ltb, eqb}
+use Rattle.tally.specs.Tests.{pick, both, all}
 use Rattle.tally.specs.Counts.{count, firstFrom}
 use Rattle.whole.specs.Whole.{filled}
-use Rattle.lldpdu.specs.Outline.{textOf, outlineOf}
+use Rattle.lldpdu.specs.Outline.{outlineOf}
+use Rattle.text.specs.Part.{textOf}
 use Rattle.rules.specs.Identity.{Ident, same}
 use Rattle.rules.specs.Events.{Said, whose}
 use Rattle.numbers.specs.Sizes.{places}
@@ -56,6 +57,10 @@ put s k p =
           };
       buf = take (k * size) (s .buf) ++ (p .body ++ drop (k * size + size) (s .buf));
     }
+
+-- where there is such a place, the buffer has its length and the place has room; else all stays
+unfoldable pub putThere : State → ℕ → Place → State
+putThere s k p = pick (all (ltb k places ∷ eqb (length (s .buf)) octets ∷ leb (p .len) size ∷ [])) (put s k p) s
 
 -- g at place k, and at each place below n
 unfoldable pub step : (Place → Place) → ℕ → State → State

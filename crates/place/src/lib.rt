@@ -1,16 +1,13 @@
 // One place of the table: its numbers in the struct and its 1,500 octets in the buffer (N1), and whose it is (N2).
-// All that writes a place goes through here. A caller has a place that there is, and a buffer of the right length.
+// Any place of any buffer can be named: past the last nothing is kept, and a buffer of another length is read as far as it goes and never written.
 ghost use mathlib.Core.Path.{_≡_};
-ghost use Prim.Native.Nat.{_≤_, _<_};
-ghost use lib.ListN.{length};
-ghost use Rattle.numbers.specs.Sizes.{places};
-ghost use Rattle.place.specs.State.{size, octets, at, put, free, state, lldpduAt, keep, isOf, says, ident};
-use lldpdu::Part;
+ghost use Rattle.place.specs.State.{at, putThere, free, state, lldpduAt, keep, isOf, says, ident};
 use lldpdu::outline_lldpdu;
-use lldpdu::text_of;
 use numbers::PLACES;
 use numbers::Table;
 use octets::same_six;
+use text::Part;
+use text::text_of;
 use whole::clear;
 use whole::fill;
 use whole::same;
@@ -22,13 +19,19 @@ pub const OCTETS: usize = PLACES * SIZE;
 
 // The LLDPDU that place i keeps (N3).
 pub fn lldpdu_at(t: Table, buffer: &[u8], i: usize) -> &[u8]
-    requires { ⌜ (i < places) × (length (now buffer) ≡ octets) ⌝ }
     ensures { λ r. ⌜ now r ≡ lldpduAt (at (state t (now (buffer .entry))) i) ⌝ }
 {
-    let from = i * SIZE;
-    let to = from + SIZE;
+    if i >= PLACES {
+        return text_of(buffer, Part { start: 0, len: 0 });
+    }
     text_of(
-        &buffer[from..to],
+        text_of(
+            buffer,
+            Part {
+                start: i * SIZE,
+                len: SIZE,
+            },
+        ),
         Part {
             start: 0,
             len: t.length[i] as usize,
@@ -36,11 +39,16 @@ pub fn lldpdu_at(t: Table, buffer: &[u8], i: usize) -> &[u8]
     )
 }
 
-// Place i becomes free (N4).
+// Place i becomes free (N4), where there is such a place and the buffer has its length.
 pub fn release(t: Table, buffer: &mut [u8], i: usize) -> Table
-    requires { ⌜ (i < places) × (length (now buffer) ≡ octets) ⌝ }
-    ensures { λ r. ⌜ state r (now (buffer .exit)) ≡ put (state t (now (buffer .entry))) i free ⌝ }
+    ensures { λ r. ⌜ state r (now (buffer .exit)) ≡ putThere (state t (now (buffer .entry))) i free ⌝ }
 {
+    if i >= PLACES {
+        return t;
+    }
+    if buffer.len() != OCTETS {
+        return t;
+    }
     let mut u = t;
     u.port[i] = 0;
     u.seconds[i] = 0;
@@ -51,11 +59,19 @@ pub fn release(t: Table, buffer: &mut [u8], i: usize) -> Table
     u
 }
 
-// Place i keeps an LLDPDU that was heard on a port, with seconds left (N3, N7).
+// Place i keeps an LLDPDU that was heard on a port, with seconds left (N3, N7), where the place has room for it too.
 pub fn store(t: Table, buffer: &mut [u8], i: usize, p: u8, left: u16, l: &[u8]) -> Table
-    requires { ⌜ (i < places) × ((length (now buffer) ≡ octets) × (length (now l) ≤ size)) ⌝ }
-    ensures { λ r. ⌜ state r (now (buffer .exit)) ≡ put (state t (now (buffer .entry))) i (keep p left (now (l .entry))) ⌝ }
+    ensures { λ r. ⌜ state r (now (buffer .exit)) ≡ putThere (state t (now (buffer .entry))) i (keep p left (now (l .entry))) ⌝ }
 {
+    if i >= PLACES {
+        return t;
+    }
+    if buffer.len() != OCTETS {
+        return t;
+    }
+    if l.len() > SIZE {
+        return t;
+    }
     let mut u = t;
     u.port[i] = p;
     u.seconds[i] = left;
@@ -90,9 +106,11 @@ pub fn is_of(
     subtype: u8,
     id: &[u8],
 ) -> bool
-    requires { ⌜ (i < places) × (length (now buffer) ≡ octets) ⌝ }
     ensures { λ r. ⌜ r ≡ isOf (state t (now (buffer .entry))) (ident p chassis subtype (now (id .entry))) i ⌝ }
 {
+    if i >= PLACES {
+        return false;
+    }
     if t.length[i] == 0 {
         return false;
     }

@@ -7,8 +7,9 @@ use mathlib.Core.Bool.{Bool, true, false}
 use mathlib.Core.Option.{none}
 use lib.ListN.{take, drop}
 use Rattle.octets.specs.Address.{sixAt, sameOctets}
-use Rattle.fields.specs.Text.{charOk, textOk}
-use Rattle.fields.specs.Device.{wantedOf, deviceOf}
+use Rattle.strings.specs.Text.{charOk, textOk}
+use Rattle.strings.specs.Wants.{wantedOf}
+use Rattle.fields.specs.Device.{deviceOf}
 use Rattle.links.specs.Link.{linkOk, listOk}
 use Rattle.fields.specs.Field.{descriptionOf, linkOf, listOf, isTtc, ttcOf, fieldOf}
 use Rattle.walk.specs.Walk.{headOf, stepOf, walk}

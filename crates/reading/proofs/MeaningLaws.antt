@@ -4,8 +4,8 @@ use Prim.{Unit, tt}
 use Prim.Native.Nat.{ℕ, zero, suc, _+_, _*_, _<_, _≤_}
 use mathlib.Core.Path.{_≡_, refl, sym, ap, _∙_}
 use mathlib.Core.List.{List, [], _∷_}
-use mathlib.Core.Bool.{Bool, true, false}
-use mathlib.Core.Option.{some}
+use mathlib.Core.Bool.{Bool, true, false, true≢false}
+use mathlib.Core.Option.{none, some}
 use native.Mathlib.Omega.{arith}
 use borrow.Author.Tests.{eqb-true, eq-eqb}
 use lib.ListN.{length, drop, getD, length-drop}
@@ -21,9 +21,10 @@ use Rattle.links.proofs.LinkLaws.{link-has}
 use Rattle.fields.proofs.FieldLaws.{Fits, field-fits}
 use Rattle.walk.specs.Walk.{Tlv, walk}
 use Rattle.lldpdu.specs.Extent.{portLength, restOf, extentOf}
+use Rattle.text.specs.Part.{textOf}
 use Rattle.found.specs.Found.{nothing, markOf, gather, htipIn}
-use Rattle.reading.specs.Reading.{Ready, tableAt, linkAt, listAt, foundIn, descriptionAt, readingAt, readingOf}
-use Rattle.found.specs.Contents.{onField, contents, linkIn, tlvsIn}
+use Rattle.reading.specs.Reading.{Ready, tableAt, linkAt, listAt, linkParts, foundIn, descriptionAt, readingAt, readingOf}
+use Rattle.found.specs.Contents.{onField, contents, LinkInfo, linkIn, tlvsIn}
 use Rattle.reading.specs.Meaning.{firstLink, firstList, saidIn, answerAt, answerOf, linkMeant, listMeant, saidBy, meant, Reads}
 use Rattle.lldpdu.proofs.ExtentLaws.{good, good-port}
 use Rattle.found.proofs.MarkLaws.{AllIn, walk-in, textAt, upTo2, Means, topic-means}
@@ -35,6 +36,7 @@ use Rattle.found.specs.declared.Found.{Found}
 use Rattle.reading.specs.declared.Description.{Description}
 use Rattle.reading.specs.declared.Link.{Link}
 use Rattle.reading.specs.declared.Link.the-variants as link-is
+use Rattle.reading.specs.declared.LinkParts.{LinkParts}
 use Rattle.reading.specs.declared.Reading.{Reading}
 
 -- Link information
@@ -206,3 +208,16 @@ module _ (s : List ℕ) {e p : ℕ} {f : Found} (v : extentOf s ≡ Octets e) (q
   pub assembled : {h : Bool} {d : Description} → h ≡ htipIn f → d ≡ descriptionAt s p f → record { extent = Octets e; htip = h; description = d } ≡ readingOf s
   unfolding readingOf
   assembled {h} {d} x y = rw (v, x, y, gathered-is, q)
+
+-- Link information that the code has taken apart
+
+abbrev pub infoOf : List ℕ → LinkParts → LinkInfo
+infoOf s t = record { interface = textOf s (t .interface); port = textOf s (t .port); addresses = textOf s (t .addresses) }
+
+pub parts-absent : (s : List ℕ) (l : Link) {t : LinkParts} → t ≡ linkParts l → t .there ≡ false → linkMeant s l ≡ none
+parts-absent s link-is.Absent e h = refl
+parts-absent s (link-is.Table i p a) e h = absurd (true≢false (sym (ap (λ (x : LinkParts). x .there) e) ∙ h))
+
+pub parts-there : (s : List ℕ) (l : Link) {t : LinkParts} → t ≡ linkParts l → t .there ≡ true → linkMeant s l ≡ some (infoOf s t)
+parts-there s link-is.Absent e h = absurd (true≢false (sym h ∙ ap (λ (x : LinkParts). x .there) e))
+parts-there s (link-is.Table i p a) e h = ap (λ (x : LinkParts). some (infoOf s x)) (sym e)

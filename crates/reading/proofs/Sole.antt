@@ -2,6 +2,8 @@
 -- The contracts are the toolchain's own reading of the source (`Post` of each `Reads`).
 use mathlib.Core.Path.{sym, _∙_}
 use Rattle.tally.proofs.Sole.{Sole}
+use Rattle.reading.proofs.link_parts.Kinds as link-parts-kinds
+use Rattle.reading.proofs.link_parts.Reads as link-parts
 use Rattle.reading.proofs.read_lldpdu.Kinds as read-lldpdu-kinds
 use Rattle.reading.proofs.read_lldpdu.Reads as read-lldpdu
 use Rattle.reading.proofs.refused_reading.Kinds as refused-reading-kinds
@@ -12,3 +14,6 @@ read-lldpdu-sole κs a r q x y e f = e .exact ∙ sym (f .exact)
 
 pub refused-reading-sole : Sole 0 refused-reading-kinds.ps refused-reading-kinds.r refused-reading.Post
 refused-reading-sole κs a r q x y e f = e ∙ sym f
+
+pub link-parts-sole : Sole 0 link-parts-kinds.ps link-parts-kinds.r link-parts.Post
+link-parts-sole κs a r q x y e f = e ∙ sym f

@@ -11,7 +11,8 @@ use Rattle.found.specs.Contents.{contents, htipOf, first, LinkInfo, linkIn, tlv
 use Rattle.fields.specs.Field.{portDescription, category, manufacturer, modelName, modelNumber, link, addressList}
 use Rattle.walk.specs.Walk.{Tlv}
 use Rattle.lldpdu.specs.Extent.{refusalIn, octetsIn, portLength, extentOf}
-use Rattle.lldpdu.specs.Outline.{textOf, noAddress, secondsIn}
+use Rattle.lldpdu.specs.Outline.{noAddress, secondsIn}
+use Rattle.text.specs.Part.{textOf}
 use Rattle.reading.specs.Reading.{readingOf}
 use Rattle.walk.specs.declared.Extent.{Extent}
 use Rattle.walk.specs.declared.Extent.the-variants.{Refused, Octets}

@@ -2,7 +2,7 @@
 -- What it means, in lists of octets, is specs/Meaning.antt.
 use Prim.Native.Nat.{ℕ, _+_, _-_, _*_, _≤_}
 use mathlib.Core.List.{List}
-use mathlib.Core.Bool.{false}
+use mathlib.Core.Bool.{true, false}
 use lib.ListN.{length, getD}
 use lib.Dec.{eqb}
 use Rattle.tally.specs.Tests.{pick}
@@ -10,15 +10,17 @@ use Rattle.octets.specs.Numbers.{pairOf}
 use Rattle.octets.specs.Address.{sixAt}
 use Rattle.fields.specs.Field.{portDescription, category, manufacturer, modelName, modelNumber, link, addressList}
 use Rattle.lldpdu.specs.Extent.{portLength, restOf, extentOf}
-use Rattle.lldpdu.specs.Outline.{part, noAddress}
+use Rattle.lldpdu.specs.Outline.{noAddress}
+use Rattle.text.specs.Part.{part}
 use Rattle.found.specs.Found.{markOf, nothing, gather, htipIn}
 use Rattle.walk.specs.declared.Extent.{Extent}
 use Rattle.walk.specs.declared.Extent.the-variants.{Refused, Octets}
-use Rattle.lldpdu.specs.declared.outline.Part.{Part}
+use Rattle.text.specs.declared.Part.{Part}
 use Rattle.found.specs.declared.Mark.{Mark}
 use Rattle.found.specs.declared.Found.{Found}
 use Rattle.reading.specs.declared.Link.{Link}
 use Rattle.reading.specs.declared.Link.the-variants as link-is
+use Rattle.reading.specs.declared.LinkParts.{LinkParts}
 use Rattle.reading.specs.declared.AddressList.{AddressList}
 use Rattle.reading.specs.declared.AddressList.the-variants as list-is
 use Rattle.reading.specs.declared.Description.{Description}
@@ -42,6 +44,11 @@ linkAt s m =
 
 unfoldable pub listAt : Mark → AddressList
 listAt m = pick (eqb (m .times) 0) list-is.Absent (list-is.Listed (partAt m))
+
+-- link information taken apart; absent, its parts are empty (A3)
+abbrev pub linkParts : Link → LinkParts
+linkParts link-is.Absent = record { there = false; interface = part 0 0; port = part 0 0; addresses = part 0 0 }
+linkParts (link-is.Table i p a) = record { there = true; interface = i; port = p; addresses = a }
 
 -- with p octets in TLV 2
 abbrev pub descriptionAt : List ℕ → ℕ → Found → Description

@@ -3,19 +3,19 @@
 ghost use mathlib.Core.Path.{_≡_};
 ghost use Prim.Native.Nat.{_≤_};
 ghost use lib.ListN.{length};
-ghost use Rattle.reading.specs.Reading.{partAt, linkAt, listAt, Ready, descriptionAt, refusedReading};
+ghost use Rattle.reading.specs.Reading.{partAt, linkAt, listAt, linkParts, Ready, descriptionAt, refusedReading};
 ghost use Rattle.reading.specs.Meaning.{Reads};
 use found::Found;
 use found::Mark;
 use found::gathered;
 use found::is_htip;
 use lldpdu::Extent;
-use lldpdu::Part;
 use lldpdu::extent_of;
 use lldpdu::port_length;
 use octets::octet;
 use octets::pair;
 use octets::six;
+use text::Part;
 
 // A link information: the octets of its interface type, of its port number and of all its addresses (T7).
 pub enum Link {
@@ -56,6 +56,40 @@ pub struct Reading {
     pub description: Description,
 }
 
+// The parts of link information, empty where it is absent, and whether it is there (A3).
+pub struct LinkParts {
+    pub there: bool,
+    pub interface: Part,
+    pub port: Part,
+    pub addresses: Part,
+}
+
+pub fn link_parts(l: Link) -> LinkParts
+    ensures { λ r. ⌜ r ≡ linkParts l ⌝ }
+{
+    match l {
+        Link::Absent => {
+            let none = Part { start: 0, len: 0 };
+            LinkParts {
+                there: false,
+                interface: none,
+                port: none,
+                addresses: none,
+            }
+        }
+        Link::Table {
+            interface,
+            port,
+            addresses,
+        } => LinkParts {
+            there: true,
+            interface: interface,
+            port: port,
+            addresses: addresses,
+        },
+    }
+}
+
 fn part_at(m: Mark) -> Part
     ensures { λ r. ⌜ r ≡ partAt m ⌝ }
 {
@@ -69,8 +103,8 @@ fn link_at(s: &[u8], m: Mark) -> Link
     requires { ⌜ m .start ≤ length (now s) ⌝ }
     ensures { λ r. ⌜ r ≡ linkAt (now (s .entry)) m ⌝ }
 {
-    let times = m.times;
-    if times == 0 {
+    let linked = m.times;
+    if linked == 0 {
         return Link::Absent;
     }
     let at = m.start;
@@ -96,8 +130,8 @@ fn link_at(s: &[u8], m: Mark) -> Link
 fn list_at(m: Mark) -> AddressList
     ensures { λ r. ⌜ r ≡ listAt m ⌝ }
 {
-    let times = m.times;
-    if times == 0 {
+    let listed = m.times;
+    if listed == 0 {
         return AddressList::Absent;
     }
     AddressList::Listed(part_at(m))

@@ -1,15 +1,19 @@
--- Laws of one TLV: its octets as the code puts them, and their number.
+-- Laws of one TLV: its octets as the code puts them.
 -- The code has the counts in hand; the definitions count the octets of an information string.
-use Prim.Native.Nat.{ℕ, suc, _+_, _/_}
+use Prim.Native.Nat.{ℕ, suc, _+_, _/_, _<_, _≤_}
 use mathlib.Core.Path.{_≡_, refl, sym, ap, _∙_}
 use mathlib.Core.List.{List, [], _∷_, _++_, append-nil, append-assoc}
-use mathlib.Core.Option.{some}
+use mathlib.Core.Option.{none, some}
+use mathlib.Core.Bool.{Bool, true, false}
 use native.Mathlib.Omega.{arith}
-use lib.ListN.{length, length-append}
+use borrow.Author.Tests.{le-leb, lt-leb}
+use lib.ListN.{length, getD, length-append}
+use Rattle.tally.specs.Tests.{pick}
+use Rattle.tally.proofs.TestsLaws.{all-fails}
 use Rattle.octets.specs.Header.{high, low}
 use Rattle.walk.specs.Walk.{Tlv}
 use Rattle.found.specs.Contents.{LinkInfo}
-use Rattle.tlvs.specs.Tlvs.{written, octetsOf, chassisTlv, portTlv, deviceTlv, linkContent, linkTlv, listTlv, unlessEmpty, ifLinked, ifListed}
+use Rattle.tlvs.specs.Tlvs.{written, octetsOf, chassisTlv, portTlv, deviceTlv, linkContent, linkTlv, listTlv, unlessEmpty, ifLinked, ifListed, countable, linkCounts, countableLink, countableList}
 
 -- One TLV, and none
 
@@ -72,9 +76,6 @@ module _ (l : LinkInfo) where
       let e : 7 + n + m + k ≡ length (linkTlv l .body) = omega (arith, link-length) in
       ap (λ (z : ℕ). high 127 z ∷ low z ∷ 0xE0 ∷ 0x27 ∷ 0x1A ∷ 2 ∷ linkContent l) e ∙ sym (one-octets (linkTlv l))
 
-  pub link-size : length (octetsOf (ifLinked (some l))) ≡ 9 + n + m + k
-  link-size = ap length (one-octets (linkTlv l)) ∙ omega (arith, link-length)
-
 pub chassis-written : (chassis : List ℕ) → length chassis ≡ 6 → (high 1 7 ∷ low 7 ∷ 4 ∷ chassis) ≡ written (chassisTlv chassis)
 chassis-written chassis six = ap (λ (k : ℕ). high 1 (suc k) ∷ low (suc k) ∷ 4 ∷ chassis) (sym six)
 
@@ -83,19 +84,25 @@ port-written subtype {x} q =
     let m : 1 + length x ≡ suc (length x) = omega arith in
     ap (λ (k : ℕ). high 2 k ∷ low k ∷ subtype ∷ x) m ∙ ap (λ (l : List ℕ). written (portTlv subtype l)) q
 
--- by the number of octets that the code has counted, none among them
-module _ (f : List ℕ → Tlv) (x : List ℕ) {n : ℕ} (q : n ≡ length x) where
-  pub none-counted : n ≡ 0 → 0 ≡ length (octetsOf (unlessEmpty f x))
-  none-counted e = ap length (none-at f x (sym q ∙ e))
+-- What an octet can count, of a string x that the code has in hand for y
 
-  pub some-counted : (n ≡ 0 → ⊥) → length (octetsOf (unlessEmpty f x)) ≡ length (written (f x))
-  some-counted h = sym (ap length (some-at f x (λ z. h (q ∙ z))))
+pub countable-is : {x y : List ℕ} → x ≡ y → length x ≤ 255 → x ≡ countable y
+countable-is {x} q h = sym (rw (le-leb (length x) 255 h)) ∙ ap countable q
 
--- the number of octets does not depend on the ID
-pub same-size : (id : ℕ) (x : List ℕ) → length (octetsOf (unlessEmpty (deviceTlv id) x)) ≡ length (octetsOf (unlessEmpty (deviceTlv 1) x))
+pub countable-none : {x y : List ℕ} → x ≡ y → 255 < length x → [] ≡ countable y
+countable-none {x} q h = sym (rw (lt-leb (length x) 255 h)) ∙ ap countable q
+
+module _ (l : LinkInfo) where
+  pub link-left-out : (k : ℕ) → getD (linkCounts l) k true ≡ false → [] ≡ octetsOf (ifLinked (countableLink (some l)))
+  unfolding octetsOf
+  link-left-out k e = sym (ap (λ (b : Bool). octetsOf (ifLinked (pick b (some l) none))) (all-fails (linkCounts l) k e))
+
+  pub link-countable : length (l .interface) ≤ 255 → length (l .port) ≤ 255 → length (l .addresses) / 6 ≤ 255 → octetsOf (ifLinked (some l)) ≡ octetsOf (ifLinked (countableLink (some l)))
+  link-countable i p a = sym (rw (le-leb (length (l .interface)) 255 i, le-leb (length (l .port)) 255 p, le-leb (length (l .addresses) / 6) 255 a))
+
+pub list-left-out : (a : List ℕ) → 255 < length a / 6 → [] ≡ octetsOf (ifListed (countableList (some a)))
 unfolding octetsOf
-same-size id [] = refl
-same-size id (y ∷ l) = refl
+list-left-out a h = sym (rw (lt-leb (length a / 6) 255 h))
 
-pub list-size : (a : List ℕ) → length (octetsOf (ifListed (some a))) ≡ 7 + length a
-list-size a = ap length (one-octets (listTlv a)) ∙ omega arith
+pub list-countable : (a : List ℕ) → length a / 6 ≤ 255 → octetsOf (ifListed (some a)) ≡ octetsOf (ifListed (countableList (some a)))
+list-countable a h = sym (rw (le-leb (length a / 6) 255 h))

@@ -3,7 +3,10 @@
 use Prim.Native.Nat.{ℕ, _/_, _%_}
 use mathlib.Core.List.{List, [], _∷_, _++_}
 use mathlib.Core.Option.{Option, none, some}
+use mathlib.Core.Bool.{Bool}
 use lib.ListN.{length}
+use lib.Dec.{leb}
+use Rattle.tally.specs.Tests.{pick, all}
 use Rattle.octets.specs.Header.{high, low}
 use Rattle.walk.specs.Walk.{Tlv}
 use Rattle.found.specs.Contents.{LinkInfo}
@@ -73,3 +76,22 @@ ifListed (some addresses) = listTlv addresses ∷ []
 -- link information by its three parts
 abbrev pub linkInfo : List ℕ → List ℕ → List ℕ → LinkInfo
 linkInfo interface port addresses = record { interface = interface; port = port; addresses = addresses }
+
+-- What an octet can count; what it cannot is left out
+
+abbrev pub mostCounted : ℕ
+mostCounted = 255
+
+abbrev pub countable : List ℕ → List ℕ
+countable x = pick (leb (length x) mostCounted) x []
+
+abbrev pub linkCounts : LinkInfo → List Bool
+linkCounts l = leb (length (l .interface)) mostCounted ∷ leb (length (l .port)) mostCounted ∷ leb (length (l .addresses) / 6) mostCounted ∷ []
+
+abbrev pub countableLink : Option LinkInfo → Option LinkInfo
+countableLink none = none
+countableLink (some l) = pick (all (linkCounts l)) (some l) none
+
+abbrev pub countableList : Option (List ℕ) → Option (List ℕ)
+countableList none = none
+countableList (some addresses) = pick (leb (length addresses / 6) mostCounted) (some addresses) none

@@ -2,21 +2,20 @@
 // Every function puts its octets at a place of the output and answers the place behind them; what does not fit is left out.
 ghost use mathlib.Core.Path.{_≡_};
 ghost use mathlib.Core.List.{[], _∷_};
-ghost use mathlib.Core.Bool.{true};
 ghost use mathlib.Core.Option.{some};
-ghost use Prim.Native.Nat.{_≤_};
-ghost use lib.ListN.{length};
 ghost use Rattle.output.specs.Output.{outputAt, puts};
 ghost use Rattle.octets.specs.Header.{high, low};
-ghost use Rattle.lldpdu.specs.Outline.{textOf};
-ghost use Rattle.description.specs.Rules.{tableSound, listedSound};
-ghost use Rattle.tlvs.specs.Tlvs.{written, octetsOf, chassisTlv, portTlv, secondsTlv, wordsTlv, deviceTlv, linkInfo, unlessEmpty, ifLinked, ifListed};
-use lldpdu::Part;
-use lldpdu::text_of;
+ghost use Rattle.text.specs.Part.{textOf};
+ghost use Rattle.tlvs.specs.Tlvs.{written, octetsOf, chassisTlv, portTlv, secondsTlv, wordsTlv, deviceTlv, linkInfo, unlessEmpty, ifLinked, ifListed, countable, countableLink, countableList};
 use octets::high_of;
 use octets::low_of;
 use output::put_all;
 use output::put_octet;
+use text::Part;
+use text::text_of;
+
+// The most that an octet counts. A field with more of something is left out; no rule allows it (T2, T7, T8).
+const MOST: usize = 255;
 
 // An octet, mostly a count, and octets behind it.
 fn put_counted(out: &mut [u8], at: usize, n: u8, src: &[u8]) -> usize
@@ -86,12 +85,14 @@ pub fn put_words(out: &mut [u8], at: usize, text: &[u8], p: Part) -> usize
 
 // Device information, if its string is not empty (T2, T3).
 pub fn put_device(out: &mut [u8], at: usize, id: u8, text: &[u8], p: Part) -> usize
-    requires { ⌜ length (textOf (now text) p) ≤ 255 ⌝ }
-    ensures { λ r. ⌜ outputAt (now (out .exit)) r ≡ puts (octetsOf (unlessEmpty (deviceTlv id) (textOf (now (text .entry)) p))) (outputAt (now (out .entry)) at) ⌝ }
+    ensures { λ r. ⌜ outputAt (now (out .exit)) r ≡ puts (octetsOf (unlessEmpty (deviceTlv id) (countable (textOf (now (text .entry)) p)))) (outputAt (now (out .entry)) at) ⌝ }
 {
     let string = text_of(text, p);
     let n = string.len();
     if n == 0 {
+        return at;
+    }
+    if n > MOST {
         return at;
     }
     let a = put_ttc(out, at, 1, 6 + n);
@@ -107,12 +108,20 @@ pub fn put_table(
     port: &[u8],
     addresses: &[u8],
 ) -> usize
-    requires { ⌜ tableSound (length (now interface)) (length (now port)) (length (now addresses)) ≡ true ⌝ }
-    ensures { λ r. ⌜ outputAt (now (out .exit)) r ≡ puts (octetsOf (ifLinked (some (linkInfo (now (interface .entry)) (now (port .entry)) (now (addresses .entry)))))) (outputAt (now (out .entry)) at) ⌝ }
+    ensures { λ r. ⌜ outputAt (now (out .exit)) r ≡ puts (octetsOf (ifLinked (countableLink (some (linkInfo (now (interface .entry)) (now (port .entry)) (now (addresses .entry))))))) (outputAt (now (out .entry)) at) ⌝ }
 {
     let n = interface.len();
     let m = port.len();
     let k = addresses.len();
+    if n > MOST {
+        return at;
+    }
+    if m > MOST {
+        return at;
+    }
+    if k / 6 > MOST {
+        return at;
+    }
     let a = put_ttc(out, at, 2, 7 + n + m + k);
     let b = put_counted(out, a, n as u8, interface);
     let c = put_counted(out, b, m as u8, port);
@@ -121,10 +130,12 @@ pub fn put_table(
 
 // An address list (T8).
 pub fn put_listed(out: &mut [u8], at: usize, addresses: &[u8]) -> usize
-    requires { ⌜ listedSound (length (now addresses)) ≡ true ⌝ }
-    ensures { λ r. ⌜ outputAt (now (out .exit)) r ≡ puts (octetsOf (ifListed (some (now (addresses .entry))))) (outputAt (now (out .entry)) at) ⌝ }
+    ensures { λ r. ⌜ outputAt (now (out .exit)) r ≡ puts (octetsOf (ifListed (countableList (some (now (addresses .entry)))))) (outputAt (now (out .entry)) at) ⌝ }
 {
     let k = addresses.len();
+    if k / 6 > MOST {
+        return at;
+    }
     let a = put_ttc(out, at, 3, 5 + k);
     put_counted(out, a, (k / 6) as u8, addresses)
 }

@@ -12,11 +12,11 @@ use lib.Dec.{leb, eqb}
 use Rattle.tally.specs.Tests.{pick, both}
 use Rattle.fields.specs.Field.{portDescription, category, manufacturer, modelName, modelNumber, link, addressList, topics}
 use Rattle.lldpdu.specs.Extent.{portLength, extentOf}
-use Rattle.lldpdu.specs.Outline.{part}
+use Rattle.text.specs.Part.{part}
 use Rattle.lldpdu.proofs.ExtentLaws.{good, good-port, reads}
 use Rattle.lldpdu.proofs.Stable.{sized}
 use Rattle.walk.specs.declared.Extent.the-variants as extent-is
-use Rattle.lldpdu.specs.declared.outline.Part.{Part}
+use Rattle.text.specs.declared.Part.{Part}
 use Rattle.found.specs.Found.{markOf}
 use Rattle.reading.specs.Reading.{partAt, linkAt, listAt, foundIn, readingOf}
 use Rattle.reader.specs.Frame.{frameOk, onFrame, ReadsFrame}

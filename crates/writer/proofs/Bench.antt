@@ -6,7 +6,7 @@ use mathlib.Core.List.{List, [], _∷_}
 use mathlib.Core.Bool.{true, false}
 use mathlib.Core.Option.{Option, none, some}
 use lib.ListN.{replicate}
-use Rattle.fields.specs.Text.{textOk}
+use Rattle.strings.specs.Text.{textOk}
 use Rattle.found.specs.Contents.{LinkInfo}
 use Rattle.reading.specs.Meaning.{Said}
 use Rattle.tlvs.specs.Tlvs.{octetsOf, linkInfo}

@@ -14,7 +14,7 @@ use Rattle.tally.proofs.TestsLaws.{Held, held}
 use Rattle.octets.specs.Header.{high, low}
 use Rattle.octets.specs.Numbers.{pairOf}
 use Rattle.octets.specs.Address.{sixAt}
-use Rattle.fields.specs.Device.{wantedOf}
+use Rattle.strings.specs.Wants.{wantedOf}
 use Rattle.fields.specs.Field.{portDescription, category, manufacturer, modelName, modelNumber, link, addressList}
 use Rattle.walk.specs.Walk.{headOf, Walked, walk}
 use Rattle.lldpdu.specs.Extent.{portOk, portLength, restOf}

@@ -12,11 +12,12 @@ use lib.Seq.{drop-at, take-at, getD-at}
 use lib.Dec.{leb, eqb}
 use Rattle.tally.specs.Tests.{pick}
 use Rattle.tally.proofs.TestsLaws.{both-true, Held, held}
-use Rattle.fields.specs.Text.{textOk}
-use Rattle.fields.specs.Device.{wantedOf, deviceOf}
+use Rattle.strings.specs.Text.{textOk}
+use Rattle.strings.specs.Wants.{wantedOf}
+use Rattle.fields.specs.Device.{deviceOf}
 use Rattle.links.specs.Link.{linkOk, listOk}
 use Rattle.fields.specs.Field.{link, addressList, portDescription, descriptionOf, linkOf, listOf, isTtc, ttcOf, fieldOf}
-use Rattle.fields.specs.declared.Wanted.the-variants.{Text}
+use Rattle.strings.specs.declared.Wanted.the-variants.{Text}
 use Rattle.fields.specs.declared.Field.{Field}
 use Rattle.fields.specs.declared.Field.the-variants.{Skipped, Malformed, Says}
 use Rattle.links.proofs.LinkLaws.{link-counts}

@@ -1,9 +1,11 @@
 -- Laws of the answer: the ways to it, as the code goes them, and when each refusal is given.
 -- 9 is decided first, by the answer for an output of 1,500 octets: what keeps the rules has room there.
-use Prim.Native.Nat.{ℕ, _<_, _≤_}
+use Prim.Native.Nat.{ℕ, _/_, _<_, _≤_}
 use mathlib.Core.Path.{_≡_, refl, sym, ap, _∙_}
 use mathlib.Core.List.{List, _++_}
 use mathlib.Core.Bool.{Bool, true, false, not}
+use mathlib.Core.Option.{Option, none, some}
+use native.Mathlib.Decide.{decLt}
 use native.Mathlib.Omega.{arith}
 use native.Mathlib.Nat.{zero-add}
 use borrow.Author.Tests.{le-leb, lt-leb}
@@ -13,12 +15,15 @@ use lib.Dec.{leb, eqb}
 use Rattle.tally.specs.Tests.{pick, both}
 use Rattle.tally.proofs.TestsLaws.{both-false}
 use Rattle.output.specs.Output.{Output, outputAt, puts}
-use Rattle.output.proofs.OutputLaws.{puts-fits}
-use Rattle.reading.specs.Meaning.{saidBy}
+use Rattle.output.proofs.OutputLaws.{puts-fits, puts-full}
+use Rattle.found.specs.Contents.{LinkInfo}
+use Rattle.reading.specs.Meaning.{Said, saidBy}
 use Rattle.reading.specs.declared.Description.{Description}
-use Rattle.announcement.specs.Encode.{encode}
+use Rattle.tlvs.specs.Tlvs.{countable, countableLink, countableList}
+use Rattle.announcement.specs.Encode.{encode, countableOf}
 use Rattle.parts.specs.Inside.{allInside}
-use Rattle.description.specs.Rules.{soundOf}
+use Rattle.description.specs.Rules.{linkSound, listSound, soundOf}
+use Rattle.description.proofs.RulesLaws.{kept, table, listed}
 use Rattle.writer.specs.Write.{refusalGiven, octetsWritten, keeps, writeOf, over, Writes}
 use Rattle.writer.specs.declared.Written.{Written}
 use Rattle.writer.specs.declared.Written.the-variants.{Octets, Refused}
@@ -47,7 +52,50 @@ put-zero out x h e =
     ∙ ap (λ (n : ℕ). x ++ drop n out) (zero-add (length x))
     ∙ ap (λ (l : List ℕ). l ++ drop (length x) out) (sym (take-length x))
 
+-- what keeps the rules has no string and no number of addresses that an octet cannot count
+
+linked : (v : Option LinkInfo) → linkSound v ≡ true → countableLink v ≡ v
+linked none e = refl
+linked (some l) e =
+    let n = length (l .interface) in
+    let m = length (l .port) in
+    let k = length (l .addresses) in
+    let t = table n m k e in
+    rw (le-leb n 255 (omega (arith, t .interface)), le-leb m 255 (omega (arith, t .port)), le-leb (k / 6) 255 (omega (arith, t .short)))
+
+listed-all : (v : Option (List ℕ)) → listSound v ≡ true → countableList v ≡ v
+listed-all none e = refl
+listed-all (some a) e = rw (le-leb (length a / 6) 255 (omega (arith, listed (length a) e .short)))
+
+pub countable-all : (d : Said) → soundOf d ≡ true → countableOf d ≡ d
+countable-all d e =
+    let k = kept d e in
+    let string : (x : List ℕ) → length x ≤ 255 → countable x ≡ x = λ x h. rw (le-leb (length x) 255 h) in
+    let category = string (d .category) (omega arith) in
+    let manufacturer = string (d .manufacturer) (omega arith) in
+    let model = string (d .model) (omega arith) in
+    let number = string (d .number) (omega arith) in
+    let link = linked (d .link) (k .link) in
+    let list = listed-all (d .list) (k .list) in
+    λ i. record {
+      chassis = d .chassis;
+      subtype = d .subtype;
+      port = d .port;
+      seconds = d .seconds;
+      words = d .words;
+      category = category i;
+      manufacturer = manufacturer i;
+      model = model i;
+      number = number i;
+      link = link i;
+      list = list i;
+    }
+
 module _ (s : List ℕ) (d : Description) where
+  -- what was put is the whole
+  pub put-whole : soundOf (saidBy s d) ≡ true → (o : Output) {p : Output} → p ≡ puts (encode (countableOf (saidBy s d))) o → p ≡ puts (encode (saidBy s d)) o
+  put-whole e o q = q ∙ ap (λ (x : Said). puts (encode x) o) (countable-all (saidBy s d) e)
+
   -- The answer where any LLDPDU has room
 
   pub outside : allInside (length s) d ≡ false → Refused 9 ≡ writeOf s d 1500
@@ -58,14 +106,28 @@ module _ (s : List ℕ) (d : Description) where
   unfolding writeOf keeps
   unsound e = rw (e, both-false (allInside (length s) d))
 
-  module _ {n : ℕ} (q : n ≡ length (encode (saidBy s d))) where
+  -- the number of octets, by the place behind them in a room of more than 1,500
+  module _ (room : List ℕ) (z : 1500 < length room) {now : List ℕ} {n : ℕ} (q : outputAt now n ≡ puts (encode (saidBy s d)) (outputAt room 0)) where
+    abbrev size : ℕ
+    size = length (encode (saidBy s d))
+
+    ends : n ≡ puts (encode (saidBy s d)) (outputAt room 0) .end
+    ends = ap (λ (o : Output). o .end) q
+
+    ends-whole : size ≤ length room → n ≡ size
+    ends-whole h = ends ∙ ap (λ (o : Output). o .end) (puts-fits (encode (saidBy s d)) room 0 (omega arith)) ∙ zero-add size
+
     pub too-long : 1500 < n → Refused 9 ≡ writeOf s d 1500
     unfolding writeOf
-    too-long h = rw (← q, lt-leb n 1500 h, both-false (keeps s d))
+    too-long h = elim (decLt 1500 size) [ yes l ↦ rw (lt-leb size 1500 l, both-false (keeps s d)) | no f ↦ absurd (omega (arith, ends-whole (omega arith))) ]
 
     pub wanted : allInside (length s) d ≡ true → soundOf (saidBy s d) ≡ true → n ≤ 1500 → Octets n ≡ writeOf s d 1500
     unfolding writeOf keeps
-    wanted e f h = rw (e, f, ← q, le-leb n 1500 h)
+    wanted e f h =
+        elim (decLt (length room) size) [
+          | yes l ↦ absurd (omega (arith, ends, puts-full (encode (saidBy s d)) room 0 (omega arith) (omega arith)))
+          | no g ↦ let q = ends-whole (omega arith) in rw (e, f, q, le-leb size 1500 (omega arith))
+        ]
 
   -- From it to the answer for an output
 

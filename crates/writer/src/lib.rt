@@ -3,7 +3,6 @@
 ghost use mathlib.Core.Path.{_≡_};
 ghost use Rattle.writer.specs.Write.{writeOf, Writes};
 use announcement::put_lldpdu;
-use announcement::size_of;
 use description::is_sound;
 use parts::all_inside;
 pub use reader::AddressList;
@@ -23,7 +22,10 @@ const BREAKS_A_RULE: u8 = 9;
 
 const NO_ROOM: u8 = 10;
 
-// What an output with room for any LLDPDU gets: 9, or the number of octets.
+// Room for the longest, and for one octet more, so that a longer one shows.
+const ROOM: usize = LONGEST + 1;
+
+// What an output with room for any LLDPDU gets: 9, or the number of octets. They are counted by putting them.
 fn size_wanted(d: Description, text: &[u8]) -> Written
     ensures { λ r. ⌜ r ≡ writeOf (now (text .entry)) d 1500 ⌝ }
 {
@@ -33,7 +35,8 @@ fn size_wanted(d: Description, text: &[u8]) -> Written
     if !is_sound(text, d) {
         return Written::Refused(BREAKS_A_RULE);
     }
-    let size = size_of(text, d);
+    let mut room = [0; ROOM];
+    let size = put_lldpdu(&mut room, text, d);
     if size > LONGEST {
         return Written::Refused(BREAKS_A_RULE);
     }

@@ -20,7 +20,7 @@ marks-of-requires c κs = search needs
 all-single-requires : tie.Need-all-single-requires
 all-single-requires c κs =
     let marks = c .before .before in
-    (marks .before .before .before .if1 .left, marks .marks-of .ensures .marked (c .before .if3 .taken))
+    (marks .before .before .before .if1 .left, marks .marks-of .ensures .0 .marked (c .before .if3 .taken))
 
 returns-2 : tie.Need-returns-2
 returns-2 c =
@@ -30,7 +30,7 @@ returns-2 c =
     let shares = two .before in
     let one = shares .before in
     let a = one .before .before .args in
-    fit-by (state (a .t) (now (a .buffer))) (one .if1 .left) (sym (shares .shares-fit .ensures) ∙ two .if2 .taken) (sym (marks .marks-of .ensures .told) ∙ three .if3 .taken)
+    fit-by (state (a .t) (now (a .buffer))) (one .if1 .left) (sym (shares .shares-fit .ensures) ∙ two .if2 .taken) (sym (marks .marks-of .ensures .0 .told) ∙ three .if3 .taken)
     (c .all-single .ensures)
 
 returns-3 : tie.Need-returns-3
@@ -39,7 +39,7 @@ returns-3 c =
     let shares = marks .before .before in
     let one = shares .before in
     let a = one .before .before .args in
-    unfit-places (state (a .t) (now (a .buffer))) (sym (marks .marks-of .ensures .told) ∙ c .if3 .left)
+    unfit-places (state (a .t) (now (a .buffer))) (sym (marks .marks-of .ensures .0 .told) ∙ c .if3 .left)
 
 returns-4 : tie.Need-returns-4
 returns-4 c =

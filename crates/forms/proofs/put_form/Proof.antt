@@ -37,17 +37,17 @@ value-at-requires-2 c κs = search needs
 put-mark-requires : tie.Need-put-mark-requires Inv-loop μ-loop
 put-mark-requires c κs = search needs
 
-taken-by-requires : tie.Need-taken-by-requires Inv-loop μ-loop
-taken-by-requires c κs = search needs
+values-taken-requires : tie.Need-values-taken-requires Inv-loop μ-loop
+values-taken-requires c κs = search needs
 
 add-k : tie.Need-add-k Inv-loop μ-loop
 add-k c =
     let l = c .before .before .before .before .before .before .before .before .before .loop in
     let s = c .before .before .before .before .before .before .before .before .before .before .before .before .before .before in
-    omega (arith, s .good .1 .1 .0 .1, taken-few (l .left) (getD (now (s .args .forms)) (l .i) 0), c .taken-by .ensures)
+    omega (arith, s .good .1 .1 .0 .1, taken-few (l .left) (getD (now (s .args .forms)) (l .i) 0), c .values-taken .ensures)
 
-left-by-requires : tie.Need-left-by-requires Inv-loop μ-loop
-left-by-requires c κs = search needs
+forms-left-requires : tie.Need-forms-left-requires Inv-loop μ-loop
+forms-left-requires c κs = search needs
 
 add-i : tie.Need-add-i Inv-loop μ-loop
 add-i c = search needs
@@ -56,12 +56,19 @@ loop-less : tie.Need-loop-less Inv-loop μ-loop
 loop-less c = search needs
 
 loop-again : tie.Need-loop-again Inv-loop μ-loop
-loop-again c = let a = c .before .before .before .before .before .before .before .before .before .before .before .before .before .before .before .args in
-    let l = c .before .before .before .before .before .before .before .before .before .before .loop in (
+loop-again c =
+    let c1 = c .before in
+    let c2 = c1 .before .before .before in
+    let c3 = c2 .before in
+    let c4 = c3 .before in
+    let turn = c4 .before .before .before .before in
+    let l = turn .loop in
+    let a = turn .before .before .before .before .before .args in (
       search needs,
-      omega (arith, taken-few (l .left) (getD (now (a .forms)) (l .i) 0), c .before .taken-by .ensures),
+      omega (arith, taken-few (l .left) (getD (now (a .forms)) (l .i) 0), c1 .values-taken .ensures),
       search needs,
-      form-next (now (a .forms)) (now (a .values)) (now (a .text)) _ (l .i) (l .left) (l .k) (outputAt (l .line) (l .end)) (omega arith) (l .inv .3) (c .before .before .before .before .before .before .value-at .ensures) (c .before .before .before .before .before .value-at2 .ensures) (c .before .before .before .before .put-mark .ensures) (c .before .taken-by .ensures) (c .left-by .ensures),
+      form-next (now (a .forms)) (now (a .values)) (now (a .text)) _ (l .i) (l .left) (l .k) (outputAt (l .line) (l .end)) (omega arith) (l .inv .3)
+          (c4 .value-at .ensures) (c3 .value-at2 .ensures) (c2 .put-mark .ensures) (c1 .values-taken .ensures) (c .forms-left .ensures),
     )
 
 same-length : tie.Need-same-length Inv-loop μ-loop
@@ -84,9 +91,9 @@ put-form-spec =
     add-value-at
     value-at-requires-2
     put-mark-requires
-    taken-by-requires
+    values-taken-requires
     add-k
-    left-by-requires
+    forms-left-requires
     add-i
     loop-less
     loop-again

@@ -1,8 +1,10 @@
 -- `hearing::hear_known` meets its contract: a goodbye frees the place (at-gone), any other announcement is kept in it (at-kept).
--- The rest of the table stays as it was.
+-- There is such a place, and it has room (there-put); the rest of the table stays as it was.
 use mathlib.Core.Path.{_∙_}
+use native.Mathlib.Omega.{arith}
 use borrow.Author.Needs.{needs}
-use Rattle.place.specs.State.{state}
+use Rattle.place.specs.State.{state, free, keep}
+use Rattle.place.proofs.ThereLaws.{there-put}
 use Rattle.hearing.proofs.ReplyLaws.{tells, at-gone, at-kept}
 use Rattle.hearing.proofs.hear_known.Statement.{statement}
 use Rattle.hearing.proofs.hear_known.Tie as tie
@@ -18,9 +20,11 @@ same-length c = search needs
 
 returns : tie.Need-returns
 returns c =
-    let a = c .before .before .before .before .before .before .before .before .args in
+    let o = c .before .before .before .before .before .before .before .before in
+    let a = o .args in
     let s = state (a .t) (a .buffer .now) in
-    tells (c .reply-with .ensures) (c .before .before .before .release .ensures) ∙ at-gone (a .k) (a .p) (a .seconds) (a .l .now) s (c .before .before .before .before .before .if1 .taken)
+    let k = c .before .before .before .release .ensures ∙ there-put s (a .k) free (o .pre .0) (o .pre .1 .0) (omega arith) in
+    tells (c .reply-with .ensures) k ∙ at-gone (a .k) (a .p) (a .seconds) (a .l .now) s (c .before .before .before .before .before .if1 .taken)
 
 store-requires : tie.Need-store-requires
 store-requires c κs = search needs
@@ -32,10 +36,13 @@ same-length-2 : tie.Need-same-length-2
 same-length-2 c = search needs
 
 returns-2 : tie.Need-returns-2
+unfolding keep
 returns-2 c =
-    let a = c .before .before .before .before .before .before .before .before .args in
+    let o = c .before .before .before .before .before .before .before .before in
+    let a = o .args in
     let s = state (a .t) (a .buffer .now) in
-    tells (c .reply-with2 .ensures) (c .before .before .before .store .ensures) ∙ at-kept (a .k) (a .p) (a .seconds) (a .l .now) s (c .before .before .before .before .before .if1 .left)
+    let k = c .before .before .before .store .ensures ∙ there-put s (a .k) (keep (a .p) (a .seconds) (a .l .now)) (o .pre .0) (o .pre .1 .0) (o .pre .1 .1) in
+    tells (c .reply-with2 .ensures) k ∙ at-kept (a .k) (a .p) (a .seconds) (a .l .now) s (c .before .before .before .before .before .if1 .left)
 
 pub hear-known-spec : {M : Type 1} → statement M
 hear-known-spec =

@@ -1,10 +1,11 @@
 -- `hearing::hear_new` meets its contract: an unknown goodbye, or what the room makes of a new record (new-goodbye, new-room).
--- A fit table with room has a free place (room-for).
+-- A fit table with room has a free place (room-for), and the LLDPDU goes there (there-put).
 use Prim.Native.Nat.{ℕ}
 use mathlib.Core.Path.{refl, sym, ap, _∙_}
-use native.Mathlib.Omega.{arith}
 use borrow.Author.Needs.{needs}
-use Rattle.place.specs.State.{state, put, keep}
+use Rattle.numbers.specs.Numbers.{firstFree}
+use Rattle.place.specs.State.{state, putThere, keep}
+use Rattle.place.proofs.ThereLaws.{there-put}
 use Rattle.fitness.proofs.FitLaws.{fit-length, room-for}
 use Rattle.hearing.proofs.ReplyLaws.{tells, new-goodbye, new-room}
 use Rattle.hearing.proofs.hear_new.Statement.{statement}
@@ -40,13 +41,7 @@ first-free-requires : tie.Need-first-free-requires
 first-free-requires c κs = search needs
 
 store-requires : tie.Need-store-requires
-store-requires c κs =
-    let r = c .before .before .before .before in
-    let o = r .before .before .before .before in
-    let a = o .args in
-    let s = state (a .t) (a .buffer .now) in
-    let e = room-for s (o .pre .0) (a .p) (o .pre .1 .0) (sym (r .room-of .ensures) ∙ c .before .before .enum-told3 .given .1) in
-    (omega (arith, c .first-free .ensures), (fit-length s (o .pre .0), o .pre .1 .1))
+store-requires c κs = search needs
 
 reply-with-requires-4 : tie.Need-reply-with-requires-4
 reply-with-requires-4 c κs = search needs
@@ -67,13 +62,19 @@ same-length : tie.Need-same-length
 same-length c = search needs
 
 returns-4 : tie.Need-returns-4
+unfolding keep
 returns-4 c =
-    let r = c .before .before .before .before .before .before .before .before in
-    let a = r .before .before .before .before .args in
+    let first = c .before .before .before .before in
+    let enough = first .before .before .enum-told3 .given .1 in
+    let r = first .before .before .before .before in
+    let o = r .before .before .before .before in
+    let a = o .args in
     let s = state (a .t) (a .buffer .now) in
-    let k = c .before .before .before .store .ensures ∙ ap (λ (i : ℕ). put s i (keep (a .p) (a .seconds) (a .l .now))) (c .before .before .before .before .first-free .ensures) in
-    tells (c .reply-with4 .ensures) k
-    ∙ new-room (a .p) (a .seconds) (a .l .now) s (r .before .if1 .left) (r .room-of .ensures) (c .before .before .before .before .before .before .enum-told3 .given .1)
+    let y = keep (a .p) (a .seconds) (a .l .now) in
+    let e = room-for s (o .pre .0) (a .p) (o .pre .1 .0) (sym (r .room-of .ensures) ∙ enough) in
+    let there = ap (λ (i : ℕ). putThere s i y) (first .first-free .ensures) ∙ there-put s (firstFree (a .t)) y e (fit-length s (o .pre .0)) (o .pre .1 .1) in
+    tells (c .reply-with4 .ensures) (c .before .before .before .store .ensures ∙ there)
+    ∙ new-room (a .p) (a .seconds) (a .l .now) s (r .before .if1 .left) (r .room-of .ensures) enough
 
 pub hear-new-spec : {M : Type 1} → statement M
 hear-new-spec =

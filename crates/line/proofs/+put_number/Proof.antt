@@ -34,18 +34,6 @@ below t = and 1 kinds.ps (falls 1 kinds.ps _<_ μ t) put-number.Pre
 abbrev claims : ℕ → lts.Claims
 claims t = (put-octet-reads.Asked, put-octet-reads.Learnt, below t, put-number.Post)
 
-cast-put-octet : (t : ℕ) → lts.Need-cast-put-octet (claims t) (given t) put-number.Post
-cast-put-octet t c = search needs
-
-add-put-octet : (t : ℕ) → lts.Need-add-put-octet (claims t) (given t) put-number.Post
-add-put-octet t c = search needs
-
-put-octet-requires : (t : ℕ) → lts.Need-put-octet-requires (claims t) (given t) put-number.Post
-put-octet-requires t c κs = search needs
-
-same-length : (t : ℕ) → lts.Need-same-length (claims t) (given t) put-number.Post
-same-length t c = search needs
-
 returns : (t : ℕ) → lts.Need-returns (claims t) (given t) put-number.Post
 returns t c =
     let p = c .before .before in
@@ -56,18 +44,6 @@ returns t c =
 put-number-requires : (t : ℕ) → lts.Need-put-number-requires (claims t) (given t) put-number.Post
 put-number-requires t c κs = (omega (arith, c .before .before .before .pre .0, c .before .if1 .left), tt)
 
-cast-put-octet-2 : (t : ℕ) → lts.Need-cast-put-octet-2 (claims t) (given t) put-number.Post
-cast-put-octet-2 t c = search needs
-
-add-put-octet-2 : (t : ℕ) → lts.Need-add-put-octet-2 (claims t) (given t) put-number.Post
-add-put-octet-2 t c = search needs
-
-put-octet-requires-2 : (t : ℕ) → lts.Need-put-octet-requires-2 (claims t) (given t) put-number.Post
-put-octet-requires-2 t c κs = search needs
-
-same-length-2 : (t : ℕ) → lts.Need-same-length-2 (claims t) (given t) put-number.Post
-same-length-2 t c = search needs
-
 returns-2 : (t : ℕ) → lts.Need-returns-2 (claims t) (given t) put-number.Post
 returns-2 t c =
     let q = c .before .before in
@@ -77,18 +53,19 @@ returns-2 t c =
     let o = outputAt (now (a .line)) (a .at) in
     puts-same o (puts-then (decimal (a .n / 10)) (_ ∷ []) o (r .put-number .ensures) (puts-one _ _ (q .put-octet2 .ensures))) (decimal-more (a .n) (e .if1 .left))
 
+-- a need that the search closes has no name
 pub +put-number-spec : {M : Type 1} → statement M
 +put-number-spec = close μ λ t. lts.spec (claims t)
     (given t)
     put-number.Post
-    (cast-put-octet t)
-    (add-put-octet t)
-    (put-octet-requires t)
-    (same-length t)
+    (λ c. search needs)
+    (λ c. search needs)
+    (λ c κs. search needs)
+    (λ c. search needs)
     (returns t)
     (put-number-requires t)
-    (cast-put-octet-2 t)
-    (add-put-octet-2 t)
-    (put-octet-requires-2 t)
-    (same-length-2 t)
+    (λ c. search needs)
+    (λ c. search needs)
+    (λ c κs. search needs)
+    (λ c. search needs)
     (returns-2 t)

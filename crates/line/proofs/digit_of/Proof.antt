@@ -1,5 +1,5 @@
 -- `line::digit_of` meets its contract: one test decides between digits and letters.
--- Nothing more is needed.
+-- A number below 16 keeps both sums within an octet.
 use mathlib.Core.Path.{refl}
 use borrow.Author.Tests.{lt-ltb, le-ltb}
 use borrow.Author.Needs.{needs}

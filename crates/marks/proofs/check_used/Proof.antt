@@ -1,12 +1,7 @@
 -- `marks::check_used` meets its contract: each return is one law of a used place.
 -- Extent, length, seconds left, zeros behind; then the mark of the identity that the outline tells.
-use mathlib.Core.Path.{sym, ap, _∙_}
-use mathlib.Core.List.{List}
-use Prim.Native.Nat.{ℕ}
-use denote.Ref.{now}
+use mathlib.Core.Path.{sym, _∙_}
 use borrow.Author.Needs.{needs}
-use Rattle.place.specs.State.{ident}
-use Rattle.marks.specs.Marks.{markOf}
 use Rattle.marks.proofs.CheckLaws.{used-refused, used-other, used-over, used-late, used-rest, used-fit}
 use Rattle.marks.proofs.check_used.Statement.{statement}
 use Rattle.marks.proofs.check_used.Tie as tie
@@ -24,16 +19,14 @@ returns : tie.Need-returns
 returns c =
     let known = c .before .before in
     let read = known .before .before in
-    let a = read .before .before .before .args in
-    used-other (a .p) (a .left) (now (a .l)) (now (a .rest)) (read .outline-lldpdu .ensures) (known .extent .given .1) (c .if1 .taken)
+    used-other _ _ _ _ (read .outline-lldpdu .ensures) (known .extent .given .1) (c .if1 .taken)
 
 returns-2 : tie.Need-returns-2
 returns-2 c =
     let one = c .before in
     let known = one .before .before in
     let read = known .before .before in
-    let a = read .before .before .before .args in
-    used-over (a .p) (a .left) (now (a .l)) (now (a .rest)) (read .outline-lldpdu .ensures) (known .extent .given .1) (one .if1 .left) (c .if2 .taken)
+    used-over _ _ _ _ (read .outline-lldpdu .ensures) (known .extent .given .1) (one .if1 .left) (search needs)
 
 returns-3 : tie.Need-returns-3
 returns-3 c =
@@ -41,8 +34,7 @@ returns-3 c =
     let one = two .before in
     let known = one .before .before in
     let read = known .before .before in
-    let a = read .before .before .before .args in
-    used-late (a .p) (a .left) (now (a .l)) (now (a .rest)) (read .outline-lldpdu .ensures) (known .extent .given .1) (one .if1 .left) (two .if2 .left) (c .if3 .taken)
+    used-late _ _ _ _ (read .outline-lldpdu .ensures) (known .extent .given .1) (one .if1 .left) (two .if2 .left) (c .if3 .taken)
 
 all-zero-requires : tie.Need-all-zero-requires
 all-zero-requires c κs = search needs
@@ -56,8 +48,7 @@ mark-of-requires c κs = search needs
 returns-4 : tie.Need-returns-4
 returns-4 c =
     let read = c .before .before in
-    let a = read .before .before .before .args in
-    used-refused (a .p) (a .left) (now (a .l)) (now (a .rest)) (read .outline-lldpdu .ensures) (c .enum-told .given .1)
+    used-refused _ _ _ _ (read .outline-lldpdu .ensures) (c .enum-told .given .1)
 
 returns-5 : tie.Need-returns-5
 returns-5 c =
@@ -68,11 +59,8 @@ returns-5 c =
     let one = two .before in
     let known = one .before .before in
     let read = known .before .before in
-    let a = read .before .before .before .args in
-    let o = read .outline-lldpdu .result in
-    used-fit (a .p) (a .left) (now (a .l)) (now (a .rest)) (read .outline-lldpdu .ensures) (known .extent .given .1) (one .if1 .left) (two .if2 .left) (three .if3 .left)
-    (sym (zero .all-zero .ensures) ∙ four .if4 .taken)
-    (c .mark-of .ensures ∙ ap (λ (i : List ℕ). markOf (ident (a .p) (o .chassis) (o .subtype) i)) (c .before .text-of .ensures))
+    used-fit _ _ _ _ (read .outline-lldpdu .ensures) (known .extent .given .1) (one .if1 .left) (two .if2 .left) (three .if3 .left)
+    (sym (zero .all-zero .ensures) ∙ four .if4 .taken) (c .mark-of .ensures) (c .before .text-of .ensures)
 
 returns-6 : tie.Need-returns-6
 returns-6 c =
@@ -82,8 +70,7 @@ returns-6 c =
     let one = two .before in
     let known = one .before .before in
     let read = known .before .before in
-    let a = read .before .before .before .args in
-    used-rest (a .p) (a .left) (now (a .l)) (now (a .rest)) (read .outline-lldpdu .ensures) (known .extent .given .1) (one .if1 .left) (two .if2 .left) (three .if3 .left)
+    used-rest _ _ _ _ (read .outline-lldpdu .ensures) (known .extent .given .1) (one .if1 .left) (two .if2 .left) (three .if3 .left)
     (sym (zero .all-zero .ensures) ∙ c .if4 .left)
 
 pub check-used-spec : {M : Type 1} → statement M

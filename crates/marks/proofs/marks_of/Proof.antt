@@ -1,7 +1,8 @@
 -- `marks::marks_of` meets its contract: every place below i is fit and has its mark.
 -- A place that is not fit decides.
 use Prim.Native.Nat.{_-_, _≤_}
-use mathlib.Core.Path.{sym, _∙_}
+use mathlib.Core.Path.{refl, sym, _∙_}
+use mathlib.Core.Bool.{true≢false}
 use native.Mathlib.Omega.{arith}
 use denote.Ref.{now}
 use borrow.Author.Needs.{needs}
@@ -31,7 +32,7 @@ returns c =
     let check = c .before .before in
     let l = check .before .before in
     let a = l .before .before .args in
-    below-stop (state (a .t) (now (a .buffer))) (l .loop .marks) (l .loop .i) (search needs) (sym (c .enum-told .given .1) ∙ check .check-place .ensures)
+    (below-stop (state (a .t) (now (a .buffer))) (l .loop .i) (search needs) (sym (c .enum-told .given .1) ∙ check .check-place .ensures), λ e. refl)
 
 enum-known-m : tie.Need-enum-known-m Inv-loop μ-loop
 enum-known-m c = search needs
@@ -60,7 +61,7 @@ returns-2 : tie.Need-returns-2 Inv-loop μ-loop
 returns-2 c =
     let l = c .before in
     let a = l .before .before .args in
-    below-end (state (a .t) (now (a .buffer))) (l .loop .marks) (l .loop .i) (omega arith) (l .loop .inv .1)
+    (below-end (state (a .t) (now (a .buffer))) (l .loop .marks) (l .loop .i) (omega arith) (l .loop .inv .1), λ e. absurd (true≢false e))
 
 pub marks-of-spec : {M : Type 1} → statement M
 marks-of-spec =

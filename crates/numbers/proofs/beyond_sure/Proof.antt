@@ -1,7 +1,7 @@
 -- `numbers::beyond_sure` meets its contract: after p turns the sum is that over the ports below p.
 -- No port holds more than there are places (holds-le), so the sum fits.
-use Prim.Native.Nat.{_*_, _-_, _≤_}
-use mathlib.Core.Path.{_≡_, sym, _∙_}
+use Prim.Native.Nat.{ℕ, _+_, _*_, _-_, _≤_}
+use mathlib.Core.Path.{_≡_, sym, ap, ap₂, _∙_}
 use mathlib.Core.Logic.{⊎-elim}
 use native.Mathlib.Omega.{arith}
 use borrow.Author.Needs.{needs}
@@ -51,7 +51,7 @@ loop-again c =
       search needs,
       (
         ⊎-elim (λ w. omega (arith, w .1)) (λ w. omega (arith, w .1)) (c .if1 .came),
-        ⊎-elim (λ w. omega (arith, w .1)) (λ w. omega (arith, w .1)) (c .if1 .came),
+        ⊎-elim (λ w. w .1 ∙ ap₂ _+_ (l .loop .inv .1 .1) (ap (λ (x : ℕ). x - sure) n) ∙ sym more) (λ w. omega (arith, w .1)) (c .if1 .came),
       ),
     )
 

@@ -1,6 +1,6 @@
 -- `numbers::held` meets its contract: after i turns n counts the used places of the port below i.
 -- The count is at most the number of places (count-le), so it fits.
-use Prim.Native.Nat.{_-_, _≤_}
+use Prim.Native.Nat.{ℕ, _+_, _-_, _≤_}
 use mathlib.Core.Path.{_≡_, ap, sym, _∙_}
 use mathlib.Core.Logic.{⊎-elim}
 use mathlib.Core.Bool.{true, false}
@@ -53,7 +53,7 @@ loop-again c =
     let was = l .loop .inv .1 in (
       search needs,
       ⊎-elim
-          (λ w. omega (arith, w .3, was, more true (simp (ne-eqb _ _ (w .0 .taken), eq-eqb _ _ (w .2 .taken)))))
+          (λ w. w .3 ∙ ap (λ (x : ℕ). x + 1) was ∙ sym (more true (simp (ne-eqb _ _ (w .0 .taken), eq-eqb _ _ (w .2 .taken)))))
           (⊎-elim
           (λ w. omega (arith, w .3, was, more false (simp (ne-eqb _ _ (w .0 .taken), ne-eqb _ _ (w .2 .left)))))
           (λ w. omega (arith, w .1, was, more false (simp (eq-eqb _ _ (w .0 .left))))))

@@ -3,7 +3,7 @@
 use mathlib.Core.Path.{sym, _∙_}
 use denote.Ref.{now}
 use borrow.Author.Needs.{needs}
-use Rattle.writer.proofs.WriteLaws.{refuses, said, too-short, writes}
+use Rattle.writer.proofs.WriteLaws.{put-whole, refuses, said, too-short, writes}
 use Rattle.writer.proofs.write.Statement.{statement}
 use Rattle.writer.proofs.write.Tie as tie
 
@@ -24,11 +24,7 @@ returns c =
     too-short (now (c3 .args .text)) (c3 .args .d) (sym (c2 .size-wanted .ensures) ∙ c1 .size .given .1) (now (c3 .args .out)) (c .if1 .taken)
 
 put-lldpdu-requires : tie.Need-put-lldpdu-requires
-put-lldpdu-requires c κs =
-    let c1 = c .before .before .before in
-    let c2 = c1 .before .before in
-    let c3 = c2 .before .before .before in
-    said (now (c3 .args .text)) (c3 .args .d) (sym (c2 .size-wanted .ensures) ∙ c1 .size .given .1) .0
+put-lldpdu-requires c κs = search needs
 
 returns-2 : tie.Need-returns-2
 returns-2 c =
@@ -45,7 +41,10 @@ returns-3 c =
     let c2 = c1 .before .before in
     let c3 = c2 .before .before in
     let c4 = c3 .before .before .before in
-    writes (now (c4 .args .text)) (c4 .args .d) (sym (c3 .size-wanted .ensures) ∙ c2 .size .given .1) (now (c4 .args .out)) (c1 .if1 .left) (c .before .before .put-lldpdu .ensures)
+    let s = now (c4 .args .text) in
+    let d = c4 .args .d in
+    let wanted = sym (c3 .size-wanted .ensures) ∙ c2 .size .given .1 in
+    writes s d wanted (now (c4 .args .out)) (c1 .if1 .left) (put-whole s d (said s d wanted .0) _ (c .before .before .put-lldpdu .ensures))
 
 pub write-spec : {M : Type 1} → statement M
 write-spec =

@@ -1,9 +1,12 @@
 -- `freeing::lose_at` meets its contract: each return is one of the three things that a lost link does to a place (lost-free, lost-other, lost-gone).
--- The step at that place follows (step-stays, step-puts).
+-- The step at that place follows (step-stays, step-puts); there is such a place (there-put).
+use mathlib.Core.Path.{_∙_}
+use native.Mathlib.Omega.{arith}
 use borrow.Author.Needs.{needs}
-use Rattle.place.specs.State.{state, at}
+use Rattle.place.specs.State.{state, at, free}
 use Rattle.freeing.specs.Changes.{lost}
 use Rattle.place.proofs.PlaceLaws.{step-stays, step-puts}
+use Rattle.place.proofs.ThereLaws.{there-put}
 use Rattle.freeing.proofs.ChangeLaws.{lost-free, lost-other, lost-gone}
 use Rattle.freeing.proofs.change.lose_at.Statement.{statement}
 use Rattle.freeing.proofs.change.lose_at.Tie as tie
@@ -40,9 +43,11 @@ same-length c = search needs
 returns-3 : tie.Need-returns-3
 unfolding at
 returns-3 c =
-    let a = c .before .before .before .before .before .before .before .before .before .args in
+    let o = c .before .before .before .before .before .before .before .before .before in
+    let a = o .args in
     let s = state (a .t1) (a .buffer .now) in
-    step-puts (lost (a .p)) (a .i) s (c .before .before .release .ensures) (lost-gone (a .p) (at s (a .i)) (search needs) (search needs))
+    let k = c .before .before .release .ensures ∙ there-put s (a .i) free (o .pre .0) (o .pre .1) (omega arith) in
+    step-puts (lost (a .p)) (a .i) s k (lost-gone (a .p) (at s (a .i)) (search needs) (search needs))
 
 pub lose-at-spec : {M : Type 1} → statement M
 lose-at-spec =

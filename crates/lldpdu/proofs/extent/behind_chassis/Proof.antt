@@ -25,10 +25,10 @@ port-fits-requires c κs = search needs
 
 behind-port-requires : tie.Need-behind-port-requires
 behind-port-requires c κs =
-    let c1 = c .before .before .before .before in
-    let c2 = c1 .before .before in
-    let g = c1 .kind .given in
-    (port-length (now (c2 .before .before .args .s)) (sym (c2 .head-at .ensures) ∙ g .1), port-short (c .before .before .octet .result) (g .0 .0) (g .0 .1 .0) (sym (c .before .port-fits .ensures) ∙ c .if1 .taken) .1)
+    let whole = c .before .before .before .before in
+    let head = whole .before .before in
+    let g = whole .kind .given in
+    (port-length (now (head .before .before .args .s)) (sym (head .head-at .ensures) ∙ g .1), port-short (c .before .before .octet .result) (g .0 .0) (g .0 .1 .0) (sym (c .before .port-fits .ensures) ∙ c .if1 .taken) .1)
 
 returns : tie.Need-returns
 unfolding behindChassis
@@ -37,16 +37,16 @@ returns c = need-short (c .before .before .head-at .ensures) _ _ (c .enum-told .
 returns-2 : tie.Need-returns-2
 unfolding behindChassis
 returns-2 c =
-    let c1 = c .before .before .before in
-    let c2 = c1 .before .before in
-    c .behind-port .ensures ∙ need-subtype (c2 .before .before .head-at .ensures) (c2 .kind .given .1) portOk _ (c1 .octet .ensures) (c .before .before .port-fits .ensures) (c .before .if1 .taken)
+    let read = c .before .before .before in
+    let whole = read .before .before in
+    c .behind-port .ensures ∙ need-subtype (whole .before .before .head-at .ensures) (whole .kind .given .1) portOk _ (read .octet .ensures) (c .before .before .port-fits .ensures) (c .before .if1 .taken)
 
 returns-3 : tie.Need-returns-3
 unfolding behindChassis
 returns-3 c =
-    let c1 = c .before .before in
-    let c2 = c1 .before .before in
-    need-subtype (c2 .before .before .head-at .ensures) (c2 .kind .given .1) portOk _ (c1 .octet .ensures) (c .before .port-fits .ensures) (c .if1 .left)
+    let read = c .before .before in
+    let whole = read .before .before in
+    need-subtype (whole .before .before .head-at .ensures) (whole .kind .given .1) portOk _ (read .octet .ensures) (c .before .port-fits .ensures) (c .if1 .left)
 
 pub behind-chassis-spec : {M : Type 1} → statement M
 behind-chassis-spec =

@@ -2,7 +2,6 @@
 -- The laws are need-short and need-whole of ExtentLaws.
 use mathlib.Core.Path.{sym, _∙_}
 use native.Mathlib.Omega.{arith}
-use denote.Ref.{now}
 use borrow.Author.Needs.{needs}
 use Rattle.lldpdu.specs.Extent.{secondsOk}
 use Rattle.lldpdu.proofs.ExtentLaws.{need-short, need-whole, behind-port}
@@ -32,23 +31,19 @@ rest-extent-requires c κs = search needs
 
 returns : tie.Need-returns
 returns c =
-    let c1 = c .before .before in
-    let c2 = c1 .before .before in
-    need-short (c1 .head-at .ensures) _ _ (c .enum-told .given .1) ∙ sym (behind-port (now (c2 .args .s)) (c2 .pre .0))
+    need-short (c .before .before .head-at .ensures) _ _ (c .enum-told .given .1) ∙ sym (behind-port _ (c .before .before .before .before .pre .0))
 
 returns-2 : tie.Need-returns-2
 returns-2 c =
-    let c1 = c .before .before .before .before in
-    let c2 = c1 .before .before in
-    let c3 = c2 .before .before in
-    c .rest-extent .ensures ∙ need-whole (c2 .head-at .ensures) (c1 .kind .given .1) secondsOk _ (c .before .before .seconds-fit .ensures) (c .before .if1 .taken) ∙ sym (behind-port (now (c3 .args .s)) (c3 .pre .0))
+    let whole = c .before .before .before .before in
+    let head = whole .before .before in
+    c .rest-extent .ensures ∙ need-whole (head .head-at .ensures) (whole .kind .given .1) secondsOk _ (c .before .before .seconds-fit .ensures) (c .before .if1 .taken) ∙ sym (behind-port _ (head .before .before .pre .0))
 
 returns-3 : tie.Need-returns-3
 returns-3 c =
-    let c1 = c .before .before .before in
-    let c2 = c1 .before .before in
-    let c3 = c2 .before .before in
-    need-whole (c2 .head-at .ensures) (c1 .kind .given .1) secondsOk _ (c .before .seconds-fit .ensures) (c .if1 .left) ∙ sym (behind-port (now (c3 .args .s)) (c3 .pre .0))
+    let whole = c .before .before .before in
+    let head = whole .before .before in
+    need-whole (head .head-at .ensures) (whole .kind .given .1) secondsOk _ (c .before .seconds-fit .ensures) (c .if1 .left) ∙ sym (behind-port _ (head .before .before .pre .0))
 
 pub behind-port-spec : {M : Type 1} → statement M
 behind-port-spec =

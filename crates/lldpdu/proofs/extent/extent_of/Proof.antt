@@ -32,16 +32,16 @@ returns c = need-short (c .before .before .head-at .ensures) _ _ (c .enum-told .
 returns-2 : tie.Need-returns-2
 unfolding extentOf
 returns-2 c =
-    let c1 = c .before .before .before in
-    let c2 = c1 .before .before in
-    c .behind-chassis .ensures ∙ need-subtype (c2 .before .before .head-at .ensures) (c2 .kind .given .1) chassisOk _ (c1 .octet .ensures) (c .before .before .chassis-fits .ensures) (c .before .if1 .taken)
+    let read = c .before .before .before in
+    let whole = read .before .before in
+    c .behind-chassis .ensures ∙ need-subtype (whole .before .before .head-at .ensures) (whole .kind .given .1) chassisOk _ (read .octet .ensures) (c .before .before .chassis-fits .ensures) (c .before .if1 .taken)
 
 returns-3 : tie.Need-returns-3
 unfolding extentOf
 returns-3 c =
-    let c1 = c .before .before in
-    let c2 = c1 .before .before in
-    need-subtype (c2 .before .before .head-at .ensures) (c2 .kind .given .1) chassisOk _ (c1 .octet .ensures) (c .before .chassis-fits .ensures) (c .if1 .left)
+    let read = c .before .before in
+    let whole = read .before .before in
+    need-subtype (whole .before .before .head-at .ensures) (whole .kind .given .1) chassisOk _ (read .octet .ensures) (c .before .chassis-fits .ensures) (c .if1 .left)
 
 pub extent-of-spec : {M : Type 1} → statement M
 extent-of-spec =

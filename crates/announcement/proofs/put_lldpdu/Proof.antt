@@ -1,0 +1,56 @@
+-- `announcement::put_lldpdu` meets its contract: the first three, the fields and End one behind the other.
+-- They are joined by laws of OutputLaws and EncodeLaws.
+use denote.Ref.{now}
+use borrow.Author.Needs.{needs}
+use Rattle.output.proofs.OutputLaws.{puts-then, puts-same}
+use Rattle.reading.specs.Meaning.{saidBy}
+use Rattle.announcement.specs.Encode.{countableOf}
+use Rattle.announcement.proofs.EncodeLaws.{encode-split}
+use Rattle.announcement.proofs.put_lldpdu.Statement.{statement}
+use Rattle.announcement.proofs.put_lldpdu.Tie as tie
+
+put-chassis-requires : tie.Need-put-chassis-requires
+put-chassis-requires c κs = search needs
+
+put-port-requires : tie.Need-put-port-requires
+put-port-requires c κs = search needs
+
+put-seconds-requires : tie.Need-put-seconds-requires
+put-seconds-requires c κs = search needs
+
+put-fields-requires : tie.Need-put-fields-requires
+put-fields-requires c κs = search needs
+
+put-head-requires : tie.Need-put-head-requires
+put-head-requires c κs = search needs
+
+same-length : tie.Need-same-length
+same-length c = search needs
+
+returns : tie.Need-returns
+returns c =
+    let c1 = c .before .before in
+    let c2 = c1 .before .before .before .before in
+    let c3 = c2 .before .before .before .before in
+    let c4 = c3 .before .before .before .before in
+    let c5 = c4 .before .before .before .before in
+    let c6 = c5 .before .before .before .before .before in
+    let a = c6 .args in
+    puts-same _
+    (puts-then _ _ _ (c5 .put-chassis .ensures)
+    (puts-then _ _ _ (c4 .put-port .ensures)
+    (puts-then _ _ _ (c3 .put-seconds .ensures)
+    (puts-then _ _ _ (c2 .put-fields .ensures) (c1 .put-head .ensures)))))
+    (encode-split (countableOf (saidBy (now (a .text)) (a .d))))
+
+pub put-lldpdu-spec : {M : Type 1} → statement M
+put-lldpdu-spec =
+    tie.close
+    (tie.spec
+    put-chassis-requires
+    put-port-requires
+    put-seconds-requires
+    put-fields-requires
+    put-head-requires
+    same-length
+    returns)

@@ -1,0 +1,3 @@
+-- What holds of every answer of this crate.
+-- The laws of parts themselves are octets' (PartLaws).
+pub mod Sole

@@ -1,0 +1,44 @@
+-- For each public function of this crate: two places that its contract allows are one, and so are the two outputs.
+-- The contracts are the toolchain's own reading of the source (`Post` of each `Reads`).
+use denote.Ref.{now}
+use Rattle.output.proofs.Sole.{SolePut, same-put}
+use Rattle.tlvs.proofs.put_head.Kinds as head-kinds
+use Rattle.tlvs.proofs.put_head.Reads as head
+use Rattle.tlvs.proofs.put_chassis.Kinds as chassis-kinds
+use Rattle.tlvs.proofs.put_chassis.Reads as chassis
+use Rattle.tlvs.proofs.put_port.Kinds as port-kinds
+use Rattle.tlvs.proofs.put_port.Reads as port
+use Rattle.tlvs.proofs.put_seconds.Kinds as seconds-kinds
+use Rattle.tlvs.proofs.put_seconds.Reads as seconds
+use Rattle.tlvs.proofs.put_words.Kinds as words-kinds
+use Rattle.tlvs.proofs.put_words.Reads as words
+use Rattle.tlvs.proofs.put_device.Kinds as device-kinds
+use Rattle.tlvs.proofs.put_device.Reads as device
+use Rattle.tlvs.proofs.put_table.Kinds as table-kinds
+use Rattle.tlvs.proofs.put_table.Reads as table
+use Rattle.tlvs.proofs.put_listed.Kinds as listed-kinds
+use Rattle.tlvs.proofs.put_listed.Reads as listed
+
+pub put-head-sole : SolePut 1 head-kinds.ps head-kinds.r head.Post (λ κs x. now (x .0))
+put-head-sole κs a r q x y = same-put
+
+pub put-chassis-sole : SolePut 1 chassis-kinds.ps chassis-kinds.r chassis.Post (λ κs x. now (x .0))
+put-chassis-sole κs a r q x y = same-put
+
+pub put-port-sole : SolePut 2 port-kinds.ps port-kinds.r port.Post (λ κs x. now (x .0))
+put-port-sole κs a r q x y = same-put
+
+pub put-seconds-sole : SolePut 1 seconds-kinds.ps seconds-kinds.r seconds.Post (λ κs x. now (x .0))
+put-seconds-sole κs a r q x y = same-put
+
+pub put-words-sole : SolePut 2 words-kinds.ps words-kinds.r words.Post (λ κs x. now (x .0))
+put-words-sole κs a r q x y = same-put
+
+pub put-device-sole : SolePut 2 device-kinds.ps device-kinds.r device.Post (λ κs x. now (x .0))
+put-device-sole κs a r q x y = same-put
+
+pub put-table-sole : SolePut 4 table-kinds.ps table-kinds.r table.Post (λ κs x. now (x .0))
+put-table-sole κs a r q x y = same-put
+
+pub put-listed-sole : SolePut 2 listed-kinds.ps listed-kinds.r listed.Post (λ κs x. now (x .0))
+put-listed-sole κs a r q x y = same-put
