@@ -86,16 +86,17 @@ module _ (p left : ℕ) (l rest : List ℕ) {o : Outline} (e : o ≡ outlineOf l
         used-late m = unfit (whole-by (Octets n) q ∙ rw (eq-eqb n (length l) h, le-leb 1 left k, lt-leb left (o .seconds) m))
 
         module _ (m : left ≤ o .seconds) where
-          in-time : whole l left ≡ true
+          pub in-time : whole l left ≡ true
           in-time = whole-by (Octets n) q ∙ rw (eq-eqb n (length l) h, le-leb 1 left k, le-leb left (o .seconds) m)
 
-          pub used-rest : zeros rest ≡ false → Unfit ≡ checkUsed p left l rest
-          unfolding checkUsed
-          used-rest z = sym (rw (in-time, z))
+  module _ (t : whole l left ≡ true) where
+    pub used-rest : zeros rest ≡ false → Unfit ≡ checkUsed p left l rest
+    unfolding checkUsed
+    used-rest z = sym (rw (t, z))
 
-          pub used-fit : {c : ℕ} {t : List ℕ} → zeros rest ≡ true → c ≡ markOf (ident p (o .chassis) (o .subtype) t) → t ≡ textOf l (o .port) → Mark c ≡ checkUsed p left l rest
-          unfolding checkUsed
-          used-fit z w v = ap Mark (w ∙ ap (λ (i : List ℕ). markOf (ident p (o .chassis) (o .subtype) i)) v ∙ ap markOf (outline-ident p l e)) ∙ sym (rw (in-time, z))
+    pub used-fit : {c : ℕ} {i : List ℕ} → zeros rest ≡ true → c ≡ markOf (ident p (o .chassis) (o .subtype) i) → i ≡ textOf l (o .port) → Mark c ≡ checkUsed p left l rest
+    unfolding checkUsed
+    used-fit z w v = ap Mark (w ∙ ap (λ (j : List ℕ). markOf (ident p (o .chassis) (o .subtype) j)) v ∙ ap markOf (outline-ident p l e)) ∙ sym (rw (t, z))
 
 -- A place
 

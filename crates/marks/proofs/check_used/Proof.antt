@@ -1,8 +1,11 @@
 -- `marks::check_used` meets its contract: each return is one law of a used place.
 -- Extent, length, seconds left, zeros behind; then the mark of the identity that the outline tells.
-use mathlib.Core.Path.{sym, _∙_}
+use mathlib.Core.Path.{_≡_, sym, _∙_}
+use mathlib.Core.Bool.{true}
+use denote.Ref.{now}
 use borrow.Author.Needs.{needs}
-use Rattle.marks.proofs.CheckLaws.{used-refused, used-other, used-over, used-late, used-rest, used-fit}
+use Rattle.marks.specs.PlaceFit.{whole}
+use Rattle.marks.proofs.CheckLaws.{used-refused, used-other, used-over, used-late, in-time, used-rest, used-fit}
 use Rattle.marks.proofs.check_used.Statement.{statement}
 use Rattle.marks.proofs.check_used.Tie as tie
 
@@ -50,28 +53,30 @@ returns-4 c =
     let read = c .before .before in
     used-refused _ _ _ _ (read .outline-lldpdu .ensures) (c .enum-told .given .1)
 
+-- the tests that led to the last two returns
+abbrev start : tie.Else3 → tie.Start
+start c = c .before .before .before .before .before .before .before .before .before .before
+
+passed : (c : tie.Else3) → whole (now (start c .args .l)) (start c .args .left) ≡ true
+passed c =
+    let two = c .before .before in
+    let one = two .before in
+    let known = one .before .before in
+    let read = known .before .before in
+    in-time (start c .args .p) _ _ (now (start c .args .rest)) (read .outline-lldpdu .ensures) (known .extent .given .1) (one .if1 .left) (two .if2 .left) (c .if3 .left)
+
 returns-5 : tie.Need-returns-5
 returns-5 c =
     let four = c .before .before .before in
     let zero = four .before in
-    let three = zero .before in
-    let two = three .before .before in
-    let one = two .before in
-    let known = one .before .before in
-    let read = known .before .before in
-    used-fit _ _ _ _ (read .outline-lldpdu .ensures) (known .extent .given .1) (one .if1 .left) (two .if2 .left) (three .if3 .left)
-    (sym (zero .all-zero .ensures) ∙ four .if4 .taken) (c .mark-of .ensures) (c .before .text-of .ensures)
+    let read = zero .before .before .before .before .before .before .before .before in
+    used-fit _ _ _ _ (read .outline-lldpdu .ensures) (passed (zero .before)) (sym (zero .all-zero .ensures) ∙ four .if4 .taken) (c .mark-of .ensures) (c .before .text-of .ensures)
 
 returns-6 : tie.Need-returns-6
 returns-6 c =
     let zero = c .before in
-    let three = zero .before in
-    let two = three .before .before in
-    let one = two .before in
-    let known = one .before .before in
-    let read = known .before .before in
-    used-rest _ _ _ _ (read .outline-lldpdu .ensures) (known .extent .given .1) (one .if1 .left) (two .if2 .left) (three .if3 .left)
-    (sym (zero .all-zero .ensures) ∙ c .if4 .left)
+    let read = zero .before .before .before .before .before .before .before .before in
+    used-rest _ _ _ _ (read .outline-lldpdu .ensures) (passed (zero .before)) (sym (zero .all-zero .ensures) ∙ c .if4 .left)
 
 pub check-used-spec : {M : Type 1} → statement M
 check-used-spec =
