@@ -77,7 +77,7 @@ ifListed (some addresses) = listTlv addresses ∷ []
 abbrev pub linkInfo : List ℕ → List ℕ → List ℕ → LinkInfo
 linkInfo interface port addresses = record { interface = interface; port = port; addresses = addresses }
 
--- What an octet can count; what it cannot is left out
+-- What an octet can count (s of T2; n, m and k of T7; k of T8); what it cannot is left out
 
 abbrev pub mostCounted : ℕ
 mostCounted = 255
