@@ -1,4 +1,4 @@
-//! The bench frames P1 to P12 (B1 to B12) and the readings of open points, as ordinary tests.
+//! The bench frames B1 to B12 and the readings of open points, as ordinary tests.
 //! Octets and expected values are typed from the rules page by hand, never taken from the program.
 
 mod page;

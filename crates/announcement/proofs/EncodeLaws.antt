@@ -3,6 +3,8 @@
 use Prim.Native.Nat.{ℕ}
 use mathlib.Core.Path.{_≡_, sym, ap}
 use mathlib.Core.List.{List, [], _∷_, _++_}
+use Rattle.output.specs.Output.{Output, puts}
+use Rattle.output.proofs.OutputLaws.{puts-then, puts-same}
 use Rattle.reading.specs.Meaning.{Said}
 use Rattle.tlvs.specs.Tlvs.{written, octetsOf, chassisTlv, portTlv, secondsTlv, endTlv, wordsTlv, deviceTlv, unlessEmpty, ifLinked, ifListed}
 use Rattle.tlvs.proofs.TlvLaws.{octets-append}
@@ -15,7 +17,7 @@ module _ (d : Said) where
   abbrev devicePut : ℕ → List ℕ → List ℕ
   devicePut id x = octetsOf (unlessEmpty (deviceTlv id) x)
 
-  pub fields-split :
+  fields-split :
       wordsPut
       ++ (devicePut 1 (d .category)
       ++ (devicePut 2 (d .manufacturer)
@@ -26,7 +28,22 @@ module _ (d : Said) where
   unfolding fieldTlvs
   fields-split = simp octets-append
 
-  pub encode-split :
+  -- the fields put one behind the other, from the output o on
+  pub fields-put : (o : Output) {p q r s t u v : Output}
+      → p ≡ puts wordsPut o
+      → q ≡ puts (devicePut 1 (d .category)) p
+      → r ≡ puts (devicePut 2 (d .manufacturer)) q
+      → s ≡ puts (devicePut 3 (d .model)) r
+      → t ≡ puts (devicePut 4 (d .number)) s
+      → u ≡ puts (octetsOf (ifLinked (d .link))) t
+      → v ≡ puts (octetsOf (ifListed (d .list))) u
+      → v ≡ puts (octetsOf (fieldTlvs d)) o
+  fields-put o e f g h i j k =
+      puts-same o
+      (puts-then _ _ _ e (puts-then _ _ _ f (puts-then _ _ _ g (puts-then _ _ _ h (puts-then _ _ _ i (puts-then _ _ _ j k))))))
+      fields-split
+
+  encode-split :
       written (chassisTlv (d .chassis))
       ++ (written (portTlv (d .subtype) (d .port)) ++ (written (secondsTlv (d .seconds)) ++ (octetsOf (fieldTlvs d) ++ written endTlv)))
       ≡ encode d
@@ -34,3 +51,14 @@ module _ (d : Said) where
   encode-split =
       ap (λ (l : List ℕ). written (chassisTlv (d .chassis)) ++ (written (portTlv (d .subtype) (d .port)) ++ (written (secondsTlv (d .seconds)) ++ l)))
       (sym (octets-append (fieldTlvs d) (endTlv ∷ [])))
+
+  -- the whole, likewise
+  pub encode-put : (o : Output) {p q r s t : Output}
+      → p ≡ puts (written (chassisTlv (d .chassis))) o
+      → q ≡ puts (written (portTlv (d .subtype) (d .port))) p
+      → r ≡ puts (written (secondsTlv (d .seconds))) q
+      → s ≡ puts (octetsOf (fieldTlvs d)) r
+      → t ≡ puts (written endTlv) s
+      → t ≡ puts (encode d) o
+  encode-put o e f g h i =
+      puts-same o (puts-then _ _ _ e (puts-then _ _ _ f (puts-then _ _ _ g (puts-then _ _ _ h i)))) encode-split

@@ -109,14 +109,14 @@ fn link_sound(text: &[u8], l: Link) -> bool
     true
 }
 
-// An address list with a octets of addresses (T8, W5).
-fn listed_sound(a: usize) -> bool
-    ensures { λ r. ⌜ r ≡ listedSound a ⌝ }
+// An address list with n octets of addresses (T8, W5).
+fn listed_sound(n: usize) -> bool
+    ensures { λ r. ⌜ r ≡ listedSound n ⌝ }
 {
-    if a % 6 != 0 {
+    if n % 6 != 0 {
         return false;
     }
-    a <= 506
+    n <= 506
 }
 
 fn list_sound(text: &[u8], l: AddressList) -> bool

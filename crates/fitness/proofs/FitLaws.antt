@@ -93,8 +93,8 @@ first-free-le s k l e = first-le (isFree (s .table)) places 0 k (omega arith) (o
 pub room-for : (s : State) → fit s ≡ true → (q : ℕ) → q < ports → share ports (holds (s .table)) q ≡ Enough → firstFree (s .table) < places
 unfolding view
 room-for s e q l n =
-    let m : share ports (model.holds (view s)) q ≡ Enough = ap (λ (f : ℕ → ℕ). share ports f q) (fun-ext (holds-view s)) ∙ n in
-    let a = room-free ports (view s) q (view-fits s (fit-parts s e)) l (share-fits ports (model.holds (view s)) q m) in
+    let m : share ports (model.holdsIn (view s)) q ≡ Enough = ap (λ (f : ℕ → ℕ). share ports f q) (fun-ext (holds-view s)) ∙ n in
+    let a = room-free ports (view s) q (view-fits s (fit-parts s e)) l (share-fits ports (model.holdsIn (view s)) q m) in
     let k = free-tab places (placed s) a in
     let h = first-free-le s (k .0) (k .1) (unseen (at s (k .0)) (k .2)) in
     omega (arith, h, k .1)

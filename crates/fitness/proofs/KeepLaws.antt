@@ -2,7 +2,6 @@
 -- What is kept of a frame is its LLDPDU up to the End TLV; it is whole, and says what the frame says.
 use Prim.Native.Nat.{ℕ, _-_, _≤_, _<_}
 use mathlib.Core.Path.{_≡_, refl, sym, ap, _∙_}
-use mathlib.Core.Logic.{_≢_}
 use mathlib.Core.Bool.{Bool, true, false}
 use mathlib.Core.List.{List, [], _∷_, append-nil}
 use native.Mathlib.Omega.{arith}
@@ -13,16 +12,14 @@ use lib.Seq.{take-at, drop-at, length-take-le}
 use Rattle.tally.proofs.TestsLaws.{both-end, held}
 use Rattle.whole.specs.Whole.{zeros, filled}
 use Rattle.whole.proofs.WholeLaws.{zeros-replicate, filled-front, filled-length}
-use Rattle.lldpdu.specs.Extent.{portLength, extentOf}
+use Rattle.lldpdu.specs.Extent.{extentOf}
 use Rattle.lldpdu.specs.Outline.{outlineAt, outlineOf}
-use Rattle.text.specs.Part.{textOf}
 use Rattle.lldpdu.proofs.ExtentLaws.{good}
-use Rattle.lldpdu.proofs.Stable.{sized, extent-stable, front, outline-stable}
+use Rattle.lldpdu.proofs.Stable.{sized, extent-stable, outline-stable}
 use Rattle.walk.specs.declared.Extent.{Extent}
 use Rattle.walk.specs.declared.Extent.the-variants.{Refused, Octets}
-use Rattle.lldpdu.specs.declared.outline.Outline.{Outline}
 use Rattle.numbers.specs.Sizes.{ports}
-use Rattle.place.specs.State.{size, free, lldpduAt, keep, said}
+use Rattle.place.specs.State.{size, free, lldpduAt, keep}
 use Rattle.marks.specs.PlaceFit.{exactly, whole, okFree, okUsed, okPlace}
 
 -- A whole LLDPDU, and the test for it part by part
@@ -120,22 +117,3 @@ module _ (d : List ℕ) (e : ℕ) (v : extentOf d ≡ Octets e) where
 
   pub kept-outline : outlineOf l ≡ outlineOf d
   kept-outline = ap outlineOf (sym (append-nil l)) ∙ outline-stable d [] e v
-
-  pub kept-port : textOf l (outlineOf d .port) ≡ textOf d (outlineOf d .port)
-  unfolding outlineOf
-  kept-port =
-      rw v
-      (ap (λ (b : List ℕ). take (portLength d - 1) (drop 12 b)) (sym (append-nil l))
-      ∙ front d [] e v .text 12 (portLength d - 1) (omega (arith, sized (good d e v) .seconds)))
-
-  -- so its identity and its seconds are those of d
-  pub kept-said : said l ≡ record { chassis = said d .chassis; subtype = said d .subtype; portId = said d .portId; seconds = said d .seconds; octets = l }
-  unfolding said
-  kept-said =
-      let o = kept-outline in
-      let i : textOf l (outlineOf l .port) ≡ textOf d (outlineOf d .port) = ap (λ (x : Outline). textOf l (x .port)) o ∙ kept-port in
-      λ k. record { chassis = o k .chassis; subtype = o k .subtype; portId = i k; seconds = o k .seconds; octets = l }
-
-  pub kept-whole : outlineOf d .seconds ≢ 0 → Whole l (outlineOf d .seconds)
-  kept-whole z =
-      record { extent = kept-extent; least = omega arith; most = omega (arith, ap (λ (x : Outline). x .seconds) kept-outline) }

@@ -15,7 +15,7 @@ use Rattle.rules.proofs.IdentityLaws.{same-true}
 use Rattle.numbers.specs.Sizes.{places}
 use Rattle.place.specs.State.{State, at, used, whoAt, isOf}
 use Rattle.fitness.specs.Fit.{single}
-use Rattle.marks.specs.Marks.{markOf, markAt, Marked}
+use Rattle.marks.specs.Marks.{identityMark, markAt, Marked}
 
 -- behind the marks
 module _ (s : State) (marks : List ℕ) (h : Marked s marks) (i j : ℕ) (a : i < places) (b : j < places) (u : at s i .len ≢ 0) where
@@ -26,9 +26,9 @@ module _ (s : State) (marks : List ℕ) (h : Marked s marks) (i j : ℕ) (a : i 
       one-mark : (used (at s j) ≡ true) × (same (whoAt (at s j)) (whoAt (at s i)) ≡ true) → getD marks j 0 ≡ getD marks i 0
       one-mark r =
           let w = same-true (whoAt (at s j)) (whoAt (at s i)) (r .1) in
-          let x : markAt (at s j) ≡ markOf (whoAt (at s j)) = rw (r .0) in
-          let y : markAt (at s i) ≡ markOf (whoAt (at s i)) = rw (ne-eqb (at s i .len) 0 u) in
-          h .right j b ∙ x ∙ ap markOf w ∙ sym (h .right i a ∙ y)
+          let x : markAt (at s j) ≡ identityMark (whoAt (at s j)) = rw (r .0) in
+          let y : markAt (at s i) ≡ identityMark (whoAt (at s i)) = rw (ne-eqb (at s i .len) 0 u) in
+          h .right j b ∙ x ∙ ap identityMark w ∙ sym (h .right i a ∙ y)
 
       go : (t : Bool) → isOf s (whoAt (at s i)) j ≡ t → isOf s (whoAt (at s i)) j ≡ false
       go true e = absurd (d (one-mark (both-true (used (at s j)) (same (whoAt (at s j)) (whoAt (at s i))) e)))

@@ -25,7 +25,7 @@ use Rattle.rules.proofs.SharesLaws.{ports-none}
 use Rattle.rules.proofs.TabLaws.{Apart, length-tab, getD-tab, tally-tab, in-tab, once-tab, tab-once}
 use Rattle.numbers.specs.Sizes.{ports, places, common}
 use Rattle.numbers.specs.Numbers.{holds}
-use Rattle.place.specs.State.{Place, State, octets, at, used, whoAt, isOf, number}
+use Rattle.place.specs.State.{Place, State, octets, at, used, whoAt, isOf, countRecords}
 use Rattle.marks.specs.PlaceFit.{okPlace, okUsed}
 use Rattle.fitness.specs.Fit.{single, Fit}
 use Rattle.fitness.specs.View.{recOf, placeOf, view}
@@ -97,19 +97,19 @@ module _ (s : State) where
   count-tab g zero = refl
   count-tab g (suc m) = omega (arith, count-tab g m, tally-tab g m (placed s), hits-place g (at s m))
 
-  pub number-view : (g : Ident → Bool) → number s g ≡ tally g (view s)
-  unfolding number view
-  number-view g = count-tab g places
+  pub count-view : (g : Ident → Bool) → countRecords s g ≡ tally g (view s)
+  unfolding countRecords view
+  count-view g = count-tab g places
 
   -- a port's number is that of the numbers alone: no octet of the buffer is asked
-  pub number-holds : (q : ℕ) → number s (portIs q) ≡ holds (s .table) q
-  unfolding number holds at
-  number-holds q = refl
+  pub count-holds : (q : ℕ) → countRecords s (portIs q) ≡ holds (s .table) q
+  unfolding countRecords holds at
+  count-holds q = refl
 
-  pub holds-view : (q : ℕ) → model.holds (view s) q ≡ holds (s .table) q
-  holds-view q = sym (number-view (portIs q)) ∙ number-holds q
+  pub holds-view : (q : ℕ) → model.holdsIn (view s) q ≡ holds (s .table) q
+  holds-view q = sym (count-view (portIs q)) ∙ count-holds q
 
-  pub beyond-view : (n : ℕ) → beyond n (model.holds (view s)) ≡ beyond n (holds (s .table))
+  pub beyond-view : (n : ℕ) → beyond n (model.holdsIn (view s)) ≡ beyond n (holds (s .table))
   beyond-view n = ap (beyond n) (fun-ext holds-view)
 
 -- From a fit table to a fit view
@@ -130,7 +130,7 @@ module _ (s : State) where
       let z : same (whoAt (at s j)) w ≡ false = rw (ne-eqb (at s j .len) 0 (a .used)) at r in
       ap₂ (λ (f g : Rec). same (f .who) (g .who)) (a .is) (b .is) ∙ z
 
-  pub view-fits : Fit s → model-fit.Fit ports (view s)
+  pub view-fits : Fit s → model-fit.FitPlaces ports (view s)
   unfolding view
   view-fits f =
       let low : model-fit.Ports ports (view s) = in-tab (λ v. v .port < ports) places (placed s) (λ k y l e. port-of k y l (seen (at s k) y e)) in
@@ -146,7 +146,7 @@ module _ (s : State) where
       port-of k y l z = rw (z .is) (port-low (at s k) (f .good k l) (z .used))
 
       -- a port that there is not holds nothing
-      six-of : model-fit.Ports ports (view s) → (q : ℕ) (b : Bool) → ltb q ports ≡ b → model.holds (view s) q ≤ most
+      six-of : model-fit.Ports ports (view s) → (q : ℕ) (b : Bool) → ltb q ports ≡ b → model.holdsIn (view s) q ≤ most
       six-of low q true e = rw (holds-view s q) (f .six q (ltb-true q ports e))
       six-of low q false e = omega (arith, ports-none ports q (view s) low (ltb-false q ports e))
 
@@ -170,7 +170,7 @@ module _ (s : State) where
       go true e = refl
       go false e = all-each (λ j. not (isOf s w j)) k (λ j l. ap not (below (eqb-false (at s k .len) 0 e) j l (eqb (at s j .len) 0) refl))
 
-  pub fit-view : length (s .buf) ≡ octets → ((k : ℕ) → k < places → okPlace (at s k) ≡ true) → model-fit.Fit ports (view s) → Fit s
+  pub fit-view : length (s .buf) ≡ octets → ((k : ℕ) → k < places → okPlace (at s k) ≡ true) → model-fit.FitPlaces ports (view s) → Fit s
   fit-view l g f =
       record {
         long = l;

@@ -13,7 +13,7 @@ use lib.ListN.{length, set}
 use Rattle.lldpdu.specs.Extent.{extentOf}
 use Rattle.lldpdu.specs.Outline.{outlineOf}
 use Rattle.walk.specs.declared.Extent.the-variants.{Octets}
-use Rattle.rules.specs.Events.{Said, whose}
+use Rattle.rules.specs.Events.{Announcement, whose}
 use Rattle.rules.specs.Model as model
 use Rattle.rules.specs.Model.{Rec, recorded}
 use Rattle.rules.specs.Tab.{tab}
@@ -33,23 +33,23 @@ Good s = (k : ℕ) → k < places → okPlace (at s k) ≡ true
 -- What is kept of an announcement
 
 -- a says what its own octets say, and these are a whole LLDPDU that a place has room for
-pub record Spoken (a : Said) : Type 0 where
+pub record Spoken (a : Announcement) : Type 0 where
   pub says : said (a .octets) ≡ a
   pub long : length (a .octets) ≤ size
   pub extent : extentOf (a .octets) ≡ Octets (length (a .octets))
 
-module _ (p : ℕ) (a : Said) (c : Spoken a) where
+module _ (p : ℕ) (a : Announcement) (c : Spoken a) where
   pub keep-place : placeOf (keep p (a .seconds) (a .octets)) ≡ some (recorded p a)
   unfolding keep
   keep-place =
       place-used (keep p (a .seconds) (a .octets)) (λ e. omega (arith, whole-some (a .octets) (c .extent)))
       ∙ ap (λ (l : List ℕ). some (record { who = whose p (said l); left = a .seconds; octets = l })) (keep-lldpdu p (a .seconds) (a .octets) (c .long))
-      ∙ ap (λ (b : Said). some (record { who = whose p b; left = a .seconds; octets = a .octets })) (c .says)
+      ∙ ap (λ (b : Announcement). some (record { who = whose p b; left = a .seconds; octets = a .octets })) (c .says)
 
   pub keep-good : p < ports → a .seconds ≢ 0 → okPlace (keep p (a .seconds) (a .octets)) ≡ true
   unfolding said
   keep-good l z =
-      let e : outlineOf (a .octets) .seconds ≡ a .seconds = ap (λ (b : Said). b .seconds) (c .says) in
+      let e : outlineOf (a .octets) .seconds ≡ a .seconds = ap (λ (b : Announcement). b .seconds) (c .says) in
       keep-ok p (a .seconds) (a .octets) l (c .long) (record { extent = c .extent; least = omega arith; most = omega arith })
 
 -- Every place by itself
@@ -64,7 +64,7 @@ module _ (s : State) (z : Sized places s) (g : Place → Place) (long : KeepsLon
   pub each-good : ((x : Place) → okPlace x ≡ true → okPlace (g x) ≡ true) → Good s → Good (each g places s)
   each-good ok h k l = ap okPlace (law .below k l) ∙ ok (at s k) (h k l)
 
-  pub each-view : (F : Rec → Option Rec) → ((x : Place) → placeOf (g x) ≡ model.at F (placeOf x)) → view (each g places s) ≡ model.each F (view s)
+  pub each-view : (F : Rec → Option Rec) → ((x : Place) → placeOf (g x) ≡ model.onRecord F (placeOf x)) → view (each g places s) ≡ model.eachRecord F (view s)
   unfolding view
   each-view F see = tab-each F places (placed s) (placed (each g places s)) (λ k l. ap placeOf (law .below k l) ∙ see (at s k))
 

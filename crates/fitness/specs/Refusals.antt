@@ -1,18 +1,13 @@
 -- The refusals that come first in every call but Start: 1 where the table is not fit (R1), then, where there is a port, 2 if it is none (R2).
 -- They are given in the order of R11.
 use Prim.Native.Nat.{ℕ}
-use mathlib.Core.Bool.{Bool, not}
-use mathlib.Core.List.{List, [], _∷_}
+use mathlib.Core.Bool.{not}
+use mathlib.Core.List.{[], _∷_}
 use lib.Dec.{leb}
-use Rattle.tally.specs.Tests.{pick}
+use Rattle.tally.specs.Due.{firstDue}
 use Rattle.numbers.specs.Sizes.{ports}
 use Rattle.place.specs.State.{State}
 use Rattle.fitness.specs.Fit.{fit}
-
--- the first of the refusals that is due, in their order (R11), 0 where none is
-abbrev pub firstDue : List (Bool × ℕ) → ℕ
-firstDue [] = 0
-firstDue ((due, n) ∷ l) = pick due n (firstDue l)
 
 unfoldable pub refusalWhenUnfit : State → ℕ
 refusalWhenUnfit s = firstDue ((not (fit s), 1) ∷ [])

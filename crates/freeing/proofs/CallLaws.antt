@@ -13,7 +13,7 @@ use Rattle.place.specs.State.{State, octets, state, empty, each}
 use Rattle.fitness.specs.Fit.{fit}
 use Rattle.freeing.specs.Changes.{aged, lost}
 use Rattle.fitness.specs.Refusals.{refusalWhenUnfit, refusalOnPort}
-use Rattle.freeing.specs.Calls.{refusalIn, refused, after, answered, Does, started, refusalAtStart, passed, linkLost}
+use Rattle.freeing.specs.Calls.{refusalOfAnswer, refusedOutcome, after, answered, Does, started, refusalAtStart, passed, linkLost}
 use Rattle.freeing.specs.declared.Answer.the-variants.{Done, Refused}
 use Rattle.freeing.specs.declared.Outcome.{Outcome}
 
@@ -22,13 +22,13 @@ done t = record { table = t; answer = Done }
 
 -- a call that is done, and one that is refused
 does-done : {t : Table} {b : List ℕ} {r : State} → state t b ≡ r → Does (done t) b (answered Done r) 0
-does-done e = record { exact = ap (answered Done) e; number = refl }
+does-done e = record { exact = ap (answered Done) e; refusal = refl }
 
 module _ (s : State) where
-  does-refuse : {o : Outcome} {n : ℕ} → o ≡ refused (s .table) n → Does o (s .buf) (answered (Refused n) s) n
-  does-refuse e = record { exact = ap (λ (x : Outcome). after x (s .buf)) e; number = ap (λ (x : Outcome). refusalIn (x .answer)) e }
+  does-refuse : {o : Outcome} {n : ℕ} → o ≡ refusedOutcome (s .table) n → Does o (s .buf) (answered (Refused n) s) n
+  does-refuse e = record { exact = ap (λ (x : Outcome). after x (s .buf)) e; refusal = ap (λ (x : Outcome). refusalOfAnswer (x .answer)) e }
 
-  pub start-refused : {o : Outcome} → length (s .buf) ≢ octets → o ≡ refused (s .table) 1 → Does o (s .buf) (started s) (refusalAtStart s)
+  pub start-refused : {o : Outcome} → length (s .buf) ≢ octets → o ≡ refusedOutcome (s .table) 1 → Does o (s .buf) (started s) (refusalAtStart s)
   unfolding started refusalAtStart
   start-refused l e = rw (ne-eqb _ _ l) (does-refuse e)
 
@@ -37,7 +37,7 @@ module _ (s : State) where
   start-done l e = rw (eq-eqb _ _ l) (does-done (ap (state (empty .table)) (e ∙ ap (λ (n : ℕ). replicate n 0) l)))
 
   module _ (n : ℕ) where
-    pub passed-unfit : {o : Outcome} → fit s ≡ false → o ≡ refused (s .table) 1 → Does o (s .buf) (passed n s) (refusalWhenUnfit s)
+    pub passed-unfit : {o : Outcome} → fit s ≡ false → o ≡ refusedOutcome (s .table) 1 → Does o (s .buf) (passed n s) (refusalWhenUnfit s)
     unfolding passed refusalWhenUnfit
     passed-unfit f e = rw f (does-refuse e)
 
@@ -46,11 +46,11 @@ module _ (s : State) where
     passed-done f e = rw f (does-done e)
 
   module _ (p : ℕ) where
-    pub lost-unfit : {o : Outcome} → fit s ≡ false → o ≡ refused (s .table) 1 → Does o (s .buf) (linkLost p s) (refusalOnPort p s)
+    pub lost-unfit : {o : Outcome} → fit s ≡ false → o ≡ refusedOutcome (s .table) 1 → Does o (s .buf) (linkLost p s) (refusalOnPort p s)
     unfolding linkLost refusalOnPort
     lost-unfit f e = rw f (does-refuse e)
 
-    pub lost-port : {o : Outcome} → fit s ≡ true → ports ≤ p → o ≡ refused (s .table) 2 → Does o (s .buf) (linkLost p s) (refusalOnPort p s)
+    pub lost-port : {o : Outcome} → fit s ≡ true → ports ≤ p → o ≡ refusedOutcome (s .table) 2 → Does o (s .buf) (linkLost p s) (refusalOnPort p s)
     unfolding linkLost refusalOnPort
     lost-port f l e = rw (f, le-ltb p ports l, le-leb ports p l) (does-refuse e)
 

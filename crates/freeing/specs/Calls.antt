@@ -7,23 +7,23 @@ use mathlib.Core.List.{List, [], _∷_}
 use lib.ListN.{length}
 use lib.Dec.{eqb, ltb}
 use Rattle.tally.specs.Tests.{pick}
+use Rattle.tally.specs.Due.{firstDue}
 use Rattle.numbers.specs.Sizes.{ports, places}
 use Rattle.numbers.specs.declared.Table.{Table}
 use Rattle.place.specs.State.{State, octets, empty, each}
 use Rattle.fitness.specs.Fit.{fit}
-use Rattle.fitness.specs.Refusals.{firstDue}
 use Rattle.freeing.specs.Changes.{aged, lost}
 use Rattle.freeing.specs.declared.Answer.{Answer}
 use Rattle.freeing.specs.declared.Answer.the-variants.{Done, Refused}
 use Rattle.freeing.specs.declared.Outcome.{Outcome}
 
 -- the refusal number of an answer, 0 where it is none
-abbrev pub refusalIn : Answer → ℕ
-refusalIn Done = 0
-refusalIn (Refused n) = n
+abbrev pub refusalOfAnswer : Answer → ℕ
+refusalOfAnswer Done = 0
+refusalOfAnswer (Refused n) = n
 
-abbrev pub refused : Table → ℕ → Outcome
-refused t n = record { table = t; answer = Refused n }
+abbrev pub refusedOutcome : Table → ℕ → Outcome
+refusedOutcome t n = record { table = t; answer = Refused n }
 
 -- what a call leaves: answer, numbers and octets
 pub record After : Type 0 where
@@ -40,9 +40,9 @@ abbrev pub stateAfter : After → State
 stateAfter a = record { table = a .outcome .table; buf = a .buf }
 
 -- The contract of such a call: this outcome and these octets and no others, with the refusal number that the rules give
-pub record Does (o : Outcome) (b : List ℕ) (want : After) (refusal : ℕ) : Type 0 where
+pub record Does (o : Outcome) (b : List ℕ) (want : After) (due : ℕ) : Type 0 where
   pub exact : after o b ≡ want
-  pub number : refusalIn (o .answer) ≡ refusal
+  pub refusal : refusalOfAnswer (o .answer) ≡ due
 
 unfoldable pub started : State → After
 started s = pick (eqb (length (s .buf)) octets) (answered Done empty) (answered (Refused 1) s)

@@ -4,7 +4,7 @@ ghost use mathlib.Core.Path.{_≡_};
 ghost use Prim.Native.Nat.{_<_};
 ghost use lib.ListN.{length};
 ghost use Rattle.numbers.specs.Sizes.{places};
-ghost use Rattle.place.specs.State.{octets, state, step, each};
+ghost use Rattle.place.specs.State.{octets, state, changeAt, each};
 ghost use Rattle.freeing.specs.Changes.{changed, aged, lost};
 ghost use Rattle.fitness.specs.Refusals.{refusalWhenUnfit, refusalOnPort};
 ghost use Rattle.freeing.specs.Calls.{Does, passed, linkLost};
@@ -27,7 +27,7 @@ pub(crate) enum Change {
 // Place i, after so many seconds.
 fn age_at(t: Table, buffer: &mut [u8], seconds: u16, i: usize) -> Table
     requires { ⌜ (i < places) × (length (now buffer) ≡ octets) ⌝ }
-    ensures { λ r. ⌜ state r (now (buffer .exit)) ≡ step (aged seconds) i (state t (now (buffer .entry))) ⌝ }
+    ensures { λ r. ⌜ state r (now (buffer .exit)) ≡ changeAt (aged seconds) i (state t (now (buffer .entry))) ⌝ }
 {
     if t.length[i] == 0 {
         return t;
@@ -44,7 +44,7 @@ fn age_at(t: Table, buffer: &mut [u8], seconds: u16, i: usize) -> Table
 // Place i, after the link of port p is lost.
 fn lose_at(t: Table, buffer: &mut [u8], p: u8, i: usize) -> Table
     requires { ⌜ (i < places) × (length (now buffer) ≡ octets) ⌝ }
-    ensures { λ r. ⌜ state r (now (buffer .exit)) ≡ step (lost p) i (state t (now (buffer .entry))) ⌝ }
+    ensures { λ r. ⌜ state r (now (buffer .exit)) ≡ changeAt (lost p) i (state t (now (buffer .entry))) ⌝ }
 {
     if t.length[i] == 0 {
         return t;
@@ -57,7 +57,7 @@ fn lose_at(t: Table, buffer: &mut [u8], p: u8, i: usize) -> Table
 
 fn change_at(t: Table, buffer: &mut [u8], change: Change, i: usize) -> Table
     requires { ⌜ (i < places) × (length (now buffer) ≡ octets) ⌝ }
-    ensures { λ r. ⌜ state r (now (buffer .exit)) ≡ step (changed change) i (state t (now (buffer .entry))) ⌝ }
+    ensures { λ r. ⌜ state r (now (buffer .exit)) ≡ changeAt (changed change) i (state t (now (buffer .entry))) ⌝ }
 {
     match change {
         Change::Age(seconds) => age_at(t, buffer, seconds, i),

@@ -2,7 +2,7 @@
 // Start judges the buffer's length alone: the table that is handed in need not be fit.
 ghost use mathlib.Core.Path.{_≡_};
 ghost use Rattle.place.specs.State.{state};
-ghost use Rattle.freeing.specs.Calls.{refused, Does, started, refusalAtStart};
+ghost use Rattle.freeing.specs.Calls.{refusedOutcome, Does, started, refusalAtStart};
 
 mod change;
 
@@ -26,7 +26,7 @@ pub struct Outcome {
 
 // A refusal returns its number, and the table as it was (R12).
 pub(crate) fn refuse(t: Table, n: u8) -> Outcome
-    ensures { λ r. ⌜ r ≡ refused t n ⌝ }
+    ensures { λ r. ⌜ r ≡ refusedOutcome t n ⌝ }
 {
     Outcome {
         table: t,

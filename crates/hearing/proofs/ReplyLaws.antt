@@ -2,29 +2,33 @@
 -- The table's own counts are those of the rules (room-share), so the shares decide as the rules say.
 use Prim.Native.Nat.{ℕ, _≤_, _<_}
 use mathlib.Core.Path.{_≡_, refl, sym, ap, _∙_}
-use mathlib.Core.List.{List}
+use mathlib.Core.List.{List, [], _∷_}
 use mathlib.Core.Logic.{_≢_}
 use mathlib.Core.Bool.{Bool, true, false, not}
 use native.Mathlib.Omega.{arith}
-use borrow.Author.Tests.{eqb-true, eq-eqb, ne-eqb, ltb-true, lt-ltb, le-ltb}
+use borrow.Author.Tests.{eq-eqb, ne-eqb, ltb-true, lt-ltb, le-ltb}
 use lib.ListN.{length, take, drop, length-take, length-drop}
-use lib.Dec.{eqb, ltb}
-use Rattle.tally.specs.Tests.{pick, both}
+use lib.Dec.{eqb, ltb, leb}
+use Rattle.tally.specs.Tests.{pick, both, all}
+use Rattle.tally.specs.Due.{firstDue}
 use Rattle.tally.proofs.TestsLaws.{not-below, below-or-at}
 use Rattle.lldpdu.specs.Extent.{extentOf}
-use Rattle.lldpdu.specs.Outline.{refusedOutline, outlineOf}
+use Rattle.lldpdu.specs.Rows.{rowsOf}
+use Rattle.lldpdu.specs.Outline.{refusedOutline, outlineAt, outlineOf}
 use Rattle.text.specs.Part.{textOf}
 use Rattle.walk.specs.declared.Extent.{Extent}
 use Rattle.walk.specs.declared.Extent.the-variants as extent-is
 use Rattle.lldpdu.specs.declared.outline.Outline.{Outline}
 use Rattle.lldpdu.proofs.ExtentLaws.{not-both, good}
+use Rattle.lldpdu.proofs.Few.{Few, extent-few}
+use Rattle.lldpdu.proofs.RowsLaws.{dueIn, extent-rows}
 use Rattle.lldpdu.proofs.Stable.{sized}
 use Rattle.reader.specs.Frame.{frameOk, onFrame}
 use Rattle.reader.proofs.FrameLaws.{frame-size, on-good, on-bad}
 use Rattle.rules.specs.Identity.{Ident}
-use Rattle.rules.specs.Events.{Said, Heard, unread, says, whose}
+use Rattle.rules.specs.Events.{Announcement, Heard, unread, says, whose}
 use Rattle.rules.specs.Shares.{sure, most, beyond, share, room}
-use Rattle.rules.specs.Answers.{refusalIn}
+use Rattle.rules.specs.Answers.{refusalOfReply}
 use Rattle.rules.specs.declared.Room.{Room}
 use Rattle.rules.specs.declared.Room.the-variants.{Enough, Full, Taken}
 use Rattle.rules.specs.declared.Reply.{Reply}
@@ -32,10 +36,9 @@ use Rattle.rules.specs.declared.Reply.the-variants.{Refreshed, Gone, UnknownGoo
 use Rattle.numbers.specs.Sizes.{ports, places, common}
 use Rattle.numbers.specs.Numbers.{holds}
 use Rattle.numbers.specs.declared.Table.{Table}
-use Rattle.place.specs.State.{State, size, state, at, put, free, keep, ident, said, find, number}
+use Rattle.place.specs.State.{State, size, state, at, put, free, keep, ident, said, find, countRecords}
 use Rattle.fitness.specs.Fit.{fit}
-use Rattle.fitness.specs.Refusals.{firstDue}
-use Rattle.hearing.specs.Frame.{heardOf, heardIn, Told, reception, told, telling, heardAt, onRoom, heardNew, heardSaying, onHeard, heard, readRefusals, refusalOnFrame, Hears}
+use Rattle.hearing.specs.Frame.{heardOf, heardIn, Told, reception, told, telling, heardAt, heardByRoom, heardNew, heardSaying, onHeard, heard, isNew, roomRows, refusalOnFrame, Hears}
 use Rattle.hearing.specs.declared.Reception.{Reception}
 use Rattle.place.proofs.WhoseLaws.{outline-ident}
 use Rattle.fitness.proofs.FitLaws.{fit-parts}
@@ -57,8 +60,8 @@ module _ (k p n : ℕ) (l : List ℕ) (s : State) where
   at-kept u = rw (ne-eqb n 0 u)
 
 -- a new one, with the room that the table's own counts leave
-pub room-share : (s : State) (w : Ident) → room ports (number s) w ≡ share ports (holds (s .table)) (w .port)
-unfolding room number holds at
+pub room-share : (s : State) (w : Ident) → room ports (countRecords s) w ≡ share ports (holds (s .table)) (w .port)
+unfolding room countRecords holds at
 room-share s w = refl
 
 module _ (p n : ℕ) (l : List ℕ) (s : State) where
@@ -69,7 +72,7 @@ module _ (p n : ℕ) (l : List ℕ) (s : State) where
   unfolding heardNew
   new-goodbye e = rw (eq-eqb n 0 e)
 
-  pub new-room : {r : Room} → n ≢ 0 → r ≡ share ports (holds (s .table)) p → {q : Room} → r ≡ q → onRoom q p n l s ≡ heardNew p n w l s
+  pub new-room : {r : Room} → n ≢ 0 → r ≡ share ports (holds (s .table)) p → {q : Room} → r ≡ q → heardByRoom q p n l s ≡ heardNew p n w l s
   unfolding heardNew
   new-room u e d = rw (ne-eqb n 0 u, room-share s w, sym e ∙ d)
 
@@ -144,16 +147,16 @@ module _ (p : ℕ) (f : List ℕ) (s : State) where
 -- The refusal number
 
 module _ (s : State) (p : ℕ) (f : fit s ≡ true) (l : p < ports) where
-  said-number : (a : Said) → refusalIn (heardSaying p a s .outcome .reply) ≡ firstDue (readRefusals (says a) p s)
+  said-refusal : (a : Announcement) → refusalOfReply (heardSaying p a s .outcome .reply) ≡ firstDue (roomRows (says a) p s)
   unfolding heardSaying heardAt heardNew share
-  said-number a =
+  said-refusal a =
       let h = holds (s .table) p in
       rw (room-share s (whose p a), not-below (find s (whose p a)) places, not-below h sure, below-or-at h most (fit-parts s f .six p l))
       (go (ltb (find s (whose p a)) places) (eqb (a .seconds) 0) (ltb h sure) (eqb h most) (eqb (beyond ports (holds (s .table))) common) (λ e. ne-eqb h most (omega (arith, ltb-true h sure e))))
     where
       go : (known goodbye few full taken : Bool) → (few ≡ true → full ≡ false)
-          → refusalIn (pick known (pick goodbye (telling Gone (put s (find s (whose p a)) free)) (telling Refreshed (put s (find s (whose p a)) (keep p (a .seconds) (a .octets)))))
-          (pick goodbye (telling UnknownGoodbye s) (onRoom (pick few Enough (pick full Full (pick taken Taken Enough))) p (a .seconds) (a .octets) s)) .outcome .reply)
+          → refusalOfReply (pick known (pick goodbye (telling Gone (put s (find s (whose p a)) free)) (telling Refreshed (put s (find s (whose p a)) (keep p (a .seconds) (a .octets)))))
+          (pick goodbye (telling UnknownGoodbye s) (heardByRoom (pick few Enough (pick full Full (pick taken Taken Enough))) p (a .seconds) (a .octets) s)) .outcome .reply)
           ≡ pick (both (both (not goodbye) (not known)) full) 7 (pick (both (both (not goodbye) (not known)) (both (not few) (both (not full) (both taken true)))) 8 0)
       go true true few full taken e = refl
       go true false few full taken e = refl
@@ -164,21 +167,44 @@ module _ (s : State) (p : ℕ) (f : fit s ≡ true) (l : p < ports) where
       go false false false false true e = refl
       go false false false false false e = refl
 
-  heard-number : (x : Heard) → refusalIn (onHeard x p s .outcome .reply) ≡ firstDue (readRefusals x p s)
-  heard-number (unread k) = go (eqb k 0) refl
+  heard-refusal : (f : List ℕ) → refusalOfReply (onHeard (heardOf f) p s .outcome .reply) ≡ firstDue ((not (frameOk f), 3) ∷ rowsOf (drop 14 f) (roomRows (heardOf f) p s))
+  unfolding heardOf onFrame outlineOf
+  heard-refusal f = rw (extent-rows (drop 14 f) (roomRows (heardOf f) p s)) (go (frameOk f) (extentOf (drop 14 f)))
     where
-      go : (b : Bool) → eqb k 0 ≡ b → k ≡ pick (not b) k 0
-      go true e = eqb-true k 0 e
+      go : (b : Bool) (e : Extent)
+          → refusalOfReply (onHeard (heardIn (pick b (outlineAt e (drop 14 f)) (refusedOutline 3) .extent) (drop 14 f)) p s .outcome .reply)
+          ≡ pick (not b) 3 (dueIn e (firstDue (roomRows (heardIn (pick b (outlineAt e (drop 14 f)) (refusedOutline 3) .extent) (drop 14 f)) p s)))
+      go true (extent-is.Refused k) = refl
+      go true (extent-is.Octets e) = said-refusal (said (take e (drop 14 f)))
       go false e = refl
-  heard-number (says a) = said-number a
 
 pub hears-exactly : (p : ℕ) (f : List ℕ) (s : State) {o : Reception} {b : List ℕ} → told o b ≡ heard p f s → Hears p f s o b
 unfolding heard refusalOnFrame
-hears-exactly p f s e = record { exact = e; number = ap (λ (x : Told). refusalIn (x .outcome .reply)) e ∙ rw (not-below p ports) (go (fit s) refl (ltb p ports) refl) }
+hears-exactly p f s e = record { exact = e; refusal = ap (λ (x : Told). refusalOfReply (x .outcome .reply)) e ∙ rw (not-below p ports) (go (fit s) refl (ltb p ports) refl) }
   where
     go : (b : Bool) → fit s ≡ b → (d : Bool) → ltb p ports ≡ d
-        → refusalIn (pick b (pick d (onHeard (heardOf f) p s) (telling (Refused 2) s)) (telling (Refused 1) s) .outcome .reply)
-        ≡ pick (not b) 1 (pick (not d) 2 (firstDue (readRefusals (heardOf f) p s)))
-    go true q true r = heard-number s p q (ltb-true p ports r) (heardOf f)
+        → refusalOfReply (pick b (pick d (onHeard (heardOf f) p s) (telling (Refused 2) s)) (telling (Refused 1) s) .outcome .reply)
+        ≡ pick (not b) 1 (pick (not d) 2 (firstDue ((not (frameOk f), 3) ∷ rowsOf (drop 14 f) (roomRows (heardOf f) p s))))
+    go true q true r = heard-refusal s p q (ltb-true p ports r) f
     go true q false r = refl
     go false q d r = refl
+
+-- 1 is for a table that is not fit, and for nothing else (R1)
+pub fit-not-1 : (p : ℕ) (f : List ℕ) (s : State) → fit s ≡ true → refusalOnFrame p f s ≢ 1
+unfolding refusalOnFrame
+fit-not-1 p f s e = rw (e, extent-rows (drop 14 f) (roomRows (heardOf f) p s)) (go (leb ports p) (frameOk f) (extentOf (drop 14 f)) (extent-few (drop 14 f)))
+  where
+    for-room : (x : Heard) → firstDue (roomRows x p s) ≢ 1
+    for-room (unread k) z = absurd (omega arith)
+    for-room (says a) z = decide (both (isNew s p a) (eqb (holds (s .table) p) most)) (all (isNew s p a ∷ leb sure (holds (s .table) p) ∷ ltb (holds (s .table) p) most ∷ eqb (beyond ports (holds (s .table))) common ∷ [])) z
+      where
+        decide : (b d : Bool) → _≢_ {A = ℕ} (pick b 7 (pick d 8 0)) 1
+        decide true d z = absurd (omega arith)
+        decide false true z = absurd (omega arith)
+        decide false false z = absurd (omega arith)
+
+    go : (b d : Bool) (x : Extent) → Few x → pick b 2 (pick (not d) 3 (dueIn x (firstDue (roomRows (heardOf f) p s)))) ≢ 1
+    go true d x y z = absurd (omega arith)
+    go false false x y z = absurd (omega arith)
+    go false true (extent-is.Refused n) y z = absurd (omega (arith, y .0))
+    go false true (extent-is.Octets n) y z = for-room (heardOf f) z

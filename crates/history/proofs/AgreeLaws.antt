@@ -12,28 +12,28 @@ use lib.Dec.{ltb, leb, eqb}
 use lib.ListN.{replicate}
 use Rattle.tally.specs.Tests.{pick, both}
 use Rattle.rules.specs.Identity.{Ident, same}
-use Rattle.rules.specs.Events.{Said, Heard, unread, says, Event, frame, passed, lost, History, whose}
+use Rattle.rules.specs.Events.{Announcement, Heard, unread, says, Event, frame, passed, lost, History, whose}
 use Rattle.rules.specs.Shares.{placesFor, portIs, room}
 use Rattle.rules.specs.Answers.{answerTo}
 use Rattle.rules.specs.declared.Room.{Room}
 use Rattle.rules.specs.declared.Room.the-variants.{Enough, Full, Taken}
 use Rattle.rules.specs.declared.Reply.the-variants.{Refused}
-use Rattle.rules.specs.Model.{Rec, Places, isSome, lookup, tally, holds, at, tick, unplug, recorded, reply, onFrame, step, run}
-use Rattle.rules.specs.Fit.{Fit}
+use Rattle.rules.specs.Model.{Rec, Places, isSome, lookup, tally, holdsIn, onRecord, tick, unplug, recorded, reply, afterFrame, step, run}
+use Rattle.rules.specs.Fit.{FitPlaces}
 use Rattle.rules.proofs.IdentityLaws.{clash, same-true}
 use Rattle.rules.proofs.EachLaws.{lookup-each}
 use Rattle.rules.proofs.FrameLaws.{tick-keeps, unplug-keeps, is-none, after, frame-lookup, step-fit, start-fit}
-use Rattle.history.specs.Past.{Announcement, inForce, older, fresh, onAnswer, among, named, numberBy, answerBy, hearing, losing, latest, number, held, answer}
+use Rattle.history.specs.Past.{Latest, inForce, older, fresh, onAnswer, among, named, countBy, answerBy, hearing, losing, latest, countNeighbours, held, answer}
 use Rattle.history.proofs.PastLaws.{losing-none}
 use Rattle.history.proofs.CountsLaws.{named-distinct, unnamed, passing-same, tally-passing}
 
 -- what a table is to hold for an identity of which this was said last
-unfoldable pub recordFor : Ident → Option Announcement → Option Rec
+unfoldable pub recordFor : Ident → Option Latest → Option Rec
 recordFor w none = none
 recordFor w (some e) =
     pick (ltb (e .since) (e .said .seconds)) (some (record { who = w; left = e .said .seconds - e .since; octets = e .said .octets })) none
 
-record-known : (w : Ident) (o : Option Announcement) → isSome (recordFor w o) ≡ inForce o
+record-known : (w : Ident) (o : Option Latest) → isSome (recordFor w o) ≡ inForce o
 unfolding recordFor
 record-known w none = refl
 record-known w (some e) = go (ltb (e .since) (e .said .seconds)) (record { who = w; left = e .said .seconds - e .since; octets = e .said .octets })
@@ -43,7 +43,7 @@ record-known w (some e) = go (ltb (e .since) (e .said .seconds)) (record { who =
     go false r = refl
 
 pub record Sound (n : ℕ) (h : History) (t : Places) : Type 0 where
-  pub fit : Fit n t
+  pub fit : FitPlaces n t
   pub agrees : (w : Ident) → lookup w t ≡ recordFor w (latest n h w)
 
 -- What follows from it: who is known, how many there are, and every answer
@@ -60,27 +60,27 @@ module _ (n : ℕ) (h : History) (t : Places) (s : Sound n h t) where
       go false d = absurd (clash (isSome (lookup w t)) e (known-same w ∙ ap inForce (unnamed n h w d)))
 
   -- any test on identities counts alike on both sides
-  tally-number : (g : Ident → Bool) → tally g t ≡ number n h g
-  unfolding number numberBy
-  tally-number g =
+  tally-count : (g : Ident → Bool) → tally g t ≡ countNeighbours n h g
+  unfolding countNeighbours countBy
+  tally-count g =
       tally-passing t g (named h) (s .fit .once) (named-distinct h) known-named
       ∙ passing-same (λ w. both (g w) (isSome (lookup w t))) (λ w. both (g w) (inForce (latest n h w))) (named h) (λ w. ap (both (g w)) (known-same w))
 
-  pub holds-held : (q : ℕ) → holds t q ≡ held n h q
+  pub holds-held : (q : ℕ) → holdsIn t q ≡ held n h q
   unfolding held
-  holds-held q = tally-number (portIs q)
+  holds-held q = tally-count (portIs q)
 
   pub same-answer : (p : ℕ) (x : Heard) → reply n p x t ≡ answer n h p x
-  unfolding reply answer answerBy number
+  unfolding reply answer answerBy countNeighbours
   same-answer p (unread k) = refl
   same-answer p (says a) =
-      let number-is : (λ g. tally g t) ≡ number n h = fun-ext tally-number in
+      let same-counts : (λ g. tally g t) ≡ countNeighbours n h = fun-ext tally-count in
       rw (known-same (whose p a))
-      (ap (λ (f : (Ident → Bool) → ℕ). pick (ltb p n) (answerTo (eqb (a .seconds) 0) (inForce (latest n h (whose p a))) (room n f (whose p a))) (Refused 2)) number-is)
+      (ap (λ (f : (Ident → Bool) → ℕ). pick (ltb p n) (answerTo (eqb (a .seconds) 0) (inForce (latest n h (whose p a))) (room n f (whose p a))) (Refused 2)) same-counts)
 
 -- Seconds passed, link lost
 
-tick-record : (s : ℕ) (w : Ident) (o : Option Announcement) → at (tick s) (recordFor w o) ≡ recordFor w (older s o)
+tick-record : (s : ℕ) (w : Ident) (o : Option Latest) → onRecord (tick s) (recordFor w o) ≡ recordFor w (older s o)
 unfolding tick recordFor
 tick-record s w none = refl
 tick-record s w (some e) = go (ltb (e .since) (e .said .seconds)) refl (ltb (e .since + s) (e .said .seconds)) refl (leb (e .said .seconds - e .since) s) refl
@@ -89,7 +89,7 @@ tick-record s w (some e) = go (ltb (e .since) (e .said .seconds)) refl (ltb (e .
     with-left k = some (record { who = w; left = k; octets = e .said .octets })
 
     go : (a : Bool) → ltb (e .since) (e .said .seconds) ≡ a → (b : Bool) → ltb (e .since + s) (e .said .seconds) ≡ b → (c : Bool) → leb (e .said .seconds - e .since) s ≡ c
-        → at (tick s) (pick a (with-left (e .said .seconds - e .since)) none) ≡ pick b (with-left (e .said .seconds - (e .since + s))) none
+        → onRecord (tick s) (pick a (with-left (e .said .seconds - e .since)) none) ≡ pick b (with-left (e .said .seconds - (e .since + s))) none
     go true p true q true r = absurd (omega (arith, ltb-true (e .since + s) (e .said .seconds) q, leb-true (e .said .seconds - e .since) s r))
     go true p true q false r =
         let z : e .said .seconds - e .since - s ≡ e .said .seconds - (e .since + s) = omega arith in
@@ -99,7 +99,7 @@ tick-record s w (some e) = go (ltb (e .since) (e .said .seconds)) refl (ltb (e .
     go false p true q c r = absurd (omega (arith, ltb-false (e .since) (e .said .seconds) p, ltb-true (e .since + s) (e .said .seconds) q))
     go false p false q c r = refl
 
-unplug-record : (p : ℕ) (w : Ident) (o : Option Announcement) → at (unplug p) (recordFor w o) ≡ recordFor w (losing p w o)
+unplug-record : (p : ℕ) (w : Ident) (o : Option Latest) → onRecord (unplug p) (recordFor w o) ≡ recordFor w (losing p w o)
 unfolding unplug recordFor
 unplug-record p w none = ap (recordFor w) (sym (losing-none p w))
 unplug-record p w (some e) = go (eqb (w .port) p) refl (ltb (e .since) (e .said .seconds)) refl
@@ -107,7 +107,7 @@ unplug-record p w (some e) = go (eqb (w .port) p) refl (ltb (e .since) (e .said 
     rec : Rec
     rec = record { who = w; left = e .said .seconds - e .since; octets = e .said .octets }
 
-    go : (a : Bool) → eqb (w .port) p ≡ a → (b : Bool) → ltb (e .since) (e .said .seconds) ≡ b → at (unplug p) (pick b (some rec) none) ≡ recordFor w (pick a none (some e))
+    go : (a : Bool) → eqb (w .port) p ≡ a → (b : Bool) → ltb (e .since) (e .said .seconds) ≡ b → onRecord (unplug p) (pick b (some rec) none) ≡ recordFor w (pick a none (some e))
     go true d true q = rw d
     go true d false q = refl
     go false d true q = rw (d, q)
@@ -115,7 +115,7 @@ unplug-record p w (some e) = go (eqb (w .port) p) refl (ltb (e .since) (e .said 
 
 -- A frame
 
-fresh-record : (p : ℕ) (a : Said) → eqb (a .seconds) 0 ≡ false → recordFor (whose p a) (fresh a) ≡ some (recorded p a)
+fresh-record : (p : ℕ) (a : Announcement) → eqb (a .seconds) 0 ≡ false → recordFor (whose p a) (fresh a) ≡ some (recorded p a)
 unfolding recordFor
 fresh-record p a e =
     let d : a .seconds ≢ 0 = eqb-false (a .seconds) 0 e in
@@ -123,7 +123,7 @@ fresh-record p a e =
     rw (lt-ltb 0 (a .seconds) (omega arith), z)
 
 -- the frame's own identity: a port that there is? a goodbye? known? and the room
-own-record : (p : ℕ) (a : Said) (o : Option Announcement) (old : Option Rec) → old ≡ recordFor (whose p a) o
+own-record : (p : ℕ) (a : Announcement) (o : Option Latest) (old : Option Rec) → old ≡ recordFor (whose p a) o
     → (b g k : Bool) (rm : Room) → eqb (a .seconds) 0 ≡ g → isSome old ≡ k
     → after (pick b (answerTo g k rm) (Refused 2)) (recorded p a) old ≡ recordFor (whose p a) (onAnswer (pick b (answerTo g k rm) (Refused 2)) a o)
 unfolding recordFor
@@ -136,16 +136,16 @@ own-record p a o old z true false false Taken e d = z
 own-record p a o old z false g k rm e d = z
 
 module _ (n : ℕ) (h : History) (t : Places) (s : Sound n h t) where
-  own-agrees : (p : ℕ) (a : Said)
+  own-agrees : (p : ℕ) (a : Announcement)
       → after (answer n h p (says a)) (recorded p a) (lookup (whose p a) t) ≡ recordFor (whose p a) (onAnswer (answer n h p (says a)) a (latest n h (whose p a)))
   unfolding answer answerBy
   own-agrees p a =
       let v = whose p a in
-      own-record p a (latest n h v) (lookup v t) (s .agrees v) (ltb p n) (eqb (a .seconds) 0) (inForce (latest n h v)) (room n (numberBy (latest n h) (named h)) v)
+      own-record p a (latest n h v) (lookup v t) (s .agrees v) (ltb p n) (eqb (a .seconds) 0) (inForce (latest n h v)) (room n (countBy (latest n h) (named h)) v)
       refl (known-same n h t s v)
 
-  frame-agrees : (p : ℕ) (x : Heard) (w : Ident) → lookup w (onFrame n p x t) ≡ recordFor w (latest n (frame p x ∷ h) w)
-  unfolding onFrame latest hearing answer
+  frame-agrees : (p : ℕ) (x : Heard) (w : Ident) → lookup w (afterFrame n p x t) ≡ recordFor w (latest n (frame p x ∷ h) w)
+  unfolding afterFrame latest hearing answer
   frame-agrees p (unread k) w = s .agrees w
   frame-agrees p (says a) w = frame-lookup n t (s .fit) p a w ∙ rw (same-answer n h t s p (says a)) (go (same w (whose p a)) refl)
     where
@@ -162,12 +162,12 @@ module _ (n : ℕ) (h : History) (t : Places) (s : Sound n h t) where
   sound-step (passed k) =
       record {
         fit = step-fit n t (s .fit) (passed k);
-        agrees = λ w. lookup-each (tick k) (tick-keeps k) w t (s .fit .once) ∙ ap (at (tick k)) (s .agrees w) ∙ tick-record k w (latest n h w);
+        agrees = λ w. lookup-each (tick k) (tick-keeps k) w t (s .fit .once) ∙ ap (onRecord (tick k)) (s .agrees w) ∙ tick-record k w (latest n h w);
       }
   sound-step (lost p) =
       record {
         fit = step-fit n t (s .fit) (lost p);
-        agrees = λ w. lookup-each (unplug p) (unplug-keeps p) w t (s .fit .once) ∙ ap (at (unplug p)) (s .agrees w) ∙ unplug-record p w (latest n h w);
+        agrees = λ w. lookup-each (unplug p) (unplug-keeps p) w t (s .fit .once) ∙ ap (onRecord (unplug p)) (s .agrees w) ∙ unplug-record p w (latest n h w);
       }
 
 -- From Start on

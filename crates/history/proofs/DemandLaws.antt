@@ -13,7 +13,7 @@ use lib.ListN.{length}
 use Rattle.tally.specs.Tests.{pick, both}
 use Rattle.tally.proofs.TestsLaws.{both-true}
 use Rattle.rules.specs.Identity.{Ident, same}
-use Rattle.rules.specs.Events.{Said, says, History, whose}
+use Rattle.rules.specs.Events.{Announcement, says, History, whose}
 use Rattle.rules.specs.Shares.{sure, most, commonFor, beyond, share, room}
 use Rattle.rules.specs.Answers.{answerTo}
 use Rattle.rules.specs.declared.Room.the-variants.{Enough, Full, Taken}
@@ -22,7 +22,7 @@ use Rattle.rules.specs.Model.{Rec, Places, isSome, lookup, reply, run}
 use Rattle.rules.proofs.IdentityLaws.{clash}
 use Rattle.rules.proofs.EachLaws.{lookup-of}
 use Rattle.rules.proofs.PlacesLaws.{in-some, lookup-at}
-use Rattle.history.specs.Past.{inForce, among, named, numberBy, answerBy, latest, present, number, held, answer}
+use Rattle.history.specs.Past.{inForce, among, named, countBy, answerBy, latest, present, countNeighbours, held, answer}
 use Rattle.history.specs.Words.{Last, Neighbour}
 use Rattle.history.specs.Demand.{Has, Knows, New, Distinct, Demand3}
 use Rattle.history.proofs.PastLaws.{on-port}
@@ -88,7 +88,7 @@ module _ (n : ℕ) (h : History) where
 
   -- the number of neighbours of a port is the length of any list of them
   held-length : (p : ℕ) (l : List Ident) → Distinct l → ((w : Ident) → (among w l ≡ true) ↔ ((w .port ≡ p) × Neighbour n h w)) → length l ≡ held n h p
-  unfolding held number numberBy present
+  unfolding held countNeighbours countBy present
   held-length p l d e =
       length-passing l (named h) d (named-distinct h) (λ w z. neighbour-named w (e w .0 z .1))
       ∙ passing-same (λ w. among w l) (λ w. both (eqb (w .port) p) (inForce (latest n h w))) (named h)
@@ -106,16 +106,16 @@ module _ (n : ℕ) (h : History) where
 
   -- Answers of the history
 
-  new-answer : (p : ℕ) (a : Said) → New n h p a → answer n h p (says a) ≡ answerTo false false (share n (held n h) p)
-  unfolding answer answerBy held number room present
+  new-answer : (p : ℕ) (a : Announcement) → New n h p a → answer n h p (says a) ≡ answerTo false false (share n (held n h) p)
+  unfolding answer answerBy held countNeighbours room present
   new-answer p a x = rw (lt-ltb p n (x .port), ne-eqb (a .seconds) 0 (x .lives), not-present (whose p a) (x .unknown))
 
-  known-answer : (p : ℕ) (a : Said) → Neighbour n h (whose p a) → answer n h p (says a) ≡ pick (eqb (a .seconds) 0) Gone Refreshed
+  known-answer : (p : ℕ) (a : Announcement) → Neighbour n h (whose p a) → answer n h p (says a) ≡ pick (eqb (a .seconds) 0) Gone Refreshed
   unfolding answer answerBy present
   known-answer p a b =
       rw (lt-ltb p n (neighbour-port (whose p a) b), neighbour-present n h (whose p a) b) (go (eqb (a .seconds) 0))
     where
-      go : (g : Bool) → answerTo g true (room n (numberBy (latest n h) (named h)) (whose p a)) ≡ pick g Gone Refreshed
+      go : (g : Bool) → answerTo g true (room n (countBy (latest n h) (named h)) (whose p a)) ≡ pick g Gone Refreshed
       go true = refl
       go false = refl
 
@@ -126,7 +126,7 @@ module _ (n : ℕ) (h : History) (t : Places) (s : Sound n h t) where
   has-lookup r k = lookup-at r t (k .0) (s .fit .once) (k .1)
 
   -- the record of an identity is the latest announcement of it
-  record-last : (r : Rec) (a : Said) (since : ℕ) → Has t r → Last n h (r .who) a since → (r .octets ≡ a .octets) × (since + r .left ≡ a .seconds)
+  record-last : (r : Rec) (a : Announcement) (since : ℕ) → Has t r → Last n h (r .who) a since → (r .octets ≡ a .octets) × (since + r .left ≡ a .seconds)
   unfolding recordFor
   record-last r a since k l =
       let e = sym (has-lookup r k) ∙ s .agrees (r .who) ∙ ap (recordFor (r .who)) (in-words n h (r .who) a since .1 l) in
@@ -165,7 +165,7 @@ pub demand3 : (n : ℕ) (h : History) → Demand3 n h (run n h)
 demand3 n h =
     let t = run n h in
     let s = sound n h in
-    let new : (p : ℕ) (a : Said) → New n h p a → reply n p (says a) (run n h) ≡ answerTo false false (share n (held n h) p) =
+    let new : (p : ℕ) (a : Announcement) → New n h p a → reply n p (says a) (run n h) ≡ answerTo false false (share n (held n h) p) =
     λ p a x. same-answer n h (run n h) s p (says a) ∙ new-answer n h p a x in
     record {
       exactly = λ w. (knows-neighbour n h t s w, neighbour-knows n h t s w);

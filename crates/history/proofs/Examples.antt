@@ -9,12 +9,12 @@ use lib.ListN.{getD}
 use Rattle.tally.specs.Counts.{sum}
 use Rattle.octets.specs.Address.{sameOctets}
 use Rattle.rules.specs.Identity.{same}
-use Rattle.rules.specs.Events.{Said, Heard, says, frame, passed, History, whose}
+use Rattle.rules.specs.Events.{Announcement, Heard, says, frame, passed, History, whose}
 use Rattle.rules.specs.Shares.{beyond, share, room}
 use Rattle.rules.specs.declared.Reply.{Reply}
 use Rattle.rules.specs.declared.Reply.the-variants.{Recorded, Gone, Refused}
-use Rattle.rules.specs.Model.{Places, tick, reply, onFrame, run}
-use Rattle.history.specs.Past.{numberBy, answerBy, hearing, latest, present, number, held, answer}
+use Rattle.rules.specs.Model.{Places, tick, reply, afterFrame, run}
+use Rattle.history.specs.Past.{countBy, answerBy, hearing, latest, present, countNeighbours, held, answer}
 use Rattle.history.proofs.DemandLaws.{demand3}
 
 -- the bench has eight ports, however many a table is built for
@@ -22,7 +22,7 @@ abbrev eight : ℕ
 eight = 8
 
 -- one switch whose agents differ in port ID: agent k announces itself with some seconds
-abbrev agent : ℕ → ℕ → Said
+abbrev agent : ℕ → ℕ → Announcement
 agent k seconds = record { chassis = 2 ∷ 0 ∷ 0 ∷ 0 ∷ 0 ∷ 1 ∷ []; subtype = 7; portId = k ∷ []; seconds = seconds; octets = k ∷ seconds ∷ [] }
 
 abbrev hello : ℕ → Heard
@@ -48,7 +48,7 @@ answersTo n h ((p, x) ∷ l) = answer n h p x ∷ answersTo n (frame p x ∷ h) 
 -- the same, asked of the model's table
 abbrev repliesTo : ℕ → Places → List (ℕ × Heard) → List Reply
 repliesTo n t [] = []
-repliesTo n t ((p, x) ∷ l) = reply n p x t ∷ repliesTo n (onFrame n p x t) l
+repliesTo n t ((p, x) ∷ l) = reply n p x t ∷ repliesTo n (afterFrame n p x t) l
 
 replies-agree : (n : ℕ) (h : History) (l : List (ℕ × Heard)) → repliesTo n (run n h) l ≡ answersTo n h l
 replies-agree n h [] = refl
@@ -58,7 +58,7 @@ replies-agree n h ((p, x) ∷ l) = ap₂ (λ (r : Reply) (rs : List Reply). r �
 
 -- what the eight ports hold
 pub bench-held : map (held eight bench) (0 ∷ 1 ∷ 2 ∷ 3 ∷ 4 ∷ 5 ∷ 6 ∷ 7 ∷ []) ≡ (6 ∷ 6 ∷ 6 ∷ 6 ∷ 2 ∷ 0 ∷ 0 ∷ 0 ∷ [])
-unfolding held number numberBy latest hearing answerBy room share beyond sum same sameOctets
+unfolding held countNeighbours countBy latest hearing answerBy room share beyond sum same sameOctets
 bench-held = refl
 
 -- a seventh on port 0, a third on port 4, two new ones and a third on port 5, a goodbye on port 0, then the third on port 4
@@ -69,7 +69,7 @@ abbrev run-expected : List Reply
 run-expected = Refused 7 ∷ Refused 8 ∷ Recorded ∷ Recorded ∷ Refused 8 ∷ Gone ∷ Recorded ∷ []
 
 pub run-answers : answersTo eight bench run-frames ≡ run-expected
-unfolding answer number numberBy latest hearing answerBy room share beyond sum same sameOctets
+unfolding answer countNeighbours countBy latest hearing answerBy room share beyond sum same sameOctets
 run-answers = refl
 
 pub run-replies : repliesTo eight (run eight bench) run-frames ≡ run-expected
@@ -81,17 +81,17 @@ abbrev aged : History
 aged = passed 119 ∷ first 0 1
 
 pub one-left : latest eight aged (whose 0 (agent 1 120)) ≡ some (record { said = agent 1 120; since = 119 })
-unfolding latest hearing answerBy numberBy room share beyond sum same sameOctets
+unfolding latest hearing answerBy countBy room share beyond sum same sameOctets
 one-left = refl
 
 pub one-left-kept : getD (run eight aged) 0 none ≡ some (record { who = whose 0 (agent 1 120); left = 1; octets = agent 1 120 .octets })
-unfolding onFrame reply tick room share beyond sum same sameOctets
+unfolding afterFrame reply tick room share beyond sum same sameOctets
 one-left-kept = refl
 
 pub then-gone : present eight (passed 1 ∷ aged) (whose 0 (agent 1 120)) ≡ false
-unfolding present latest hearing answerBy numberBy room share beyond sum same sameOctets
+unfolding present latest hearing answerBy countBy room share beyond sum same sameOctets
 then-gone = refl
 
 pub then-free : run eight (passed 1 ∷ aged) ≡ run eight []
-unfolding onFrame reply tick room share beyond sum same sameOctets
+unfolding afterFrame reply tick room share beyond sum same sameOctets
 then-free = refl

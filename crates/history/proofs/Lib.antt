@@ -8,4 +8,5 @@ pub mod DemandLaws
 pub mod CallsLaws
 pub mod SeesLaws
 pub mod Runs
+pub mod Witness
 pub mod Examples

@@ -10,24 +10,24 @@ use borrow.Author.Tests.{ltb-true, ltb-false, le-ltb}
 use lib.Dec.{ltb, eqb}
 use Rattle.tally.specs.Tests.{pick}
 use Rattle.rules.specs.Identity.{Ident, same}
-use Rattle.rules.specs.Events.{Said, unread, says, frame, passed, lost, History, whose}
+use Rattle.rules.specs.Events.{Announcement, unread, says, frame, passed, lost, History, whose}
 use Rattle.rules.proofs.IdentityLaws.{same-true, same-self}
-use Rattle.history.specs.Past.{Announcement, older, onAnswer, named, answerBy, hearing, losing, latest, answer}
+use Rattle.history.specs.Past.{Latest, older, onAnswer, named, answerBy, hearing, losing, latest, answer}
 
-pub older-zero : (o : Option Announcement) → older 0 o ≡ o
+pub older-zero : (o : Option Latest) → older 0 o ≡ o
 older-zero none = refl
 older-zero (some e) = ap (λ (k : ℕ). some (record { said = e .said; since = k })) (omega arith)
 
 pub losing-none : (p : ℕ) (w : Ident) → losing p w none ≡ none
 losing-none p w = go (eqb (w .port) p)
   where
-    go : (b : Bool) → pick {A = Option Announcement} b none none ≡ none
+    go : (b : Bool) → pick {A = Option Latest} b none none ≡ none
     go true = refl
     go false = refl
 
 module _ (n : ℕ) where
   -- a frame changes what was said of its own identity, by its answer
-  pub frame-own : (p : ℕ) (a : Said) (h : History) → latest n (frame p (says a) ∷ h) (whose p a) ≡ onAnswer (answer n h p (says a)) a (latest n h (whose p a))
+  pub frame-own : (p : ℕ) (a : Announcement) (h : History) → latest n (frame p (says a) ∷ h) (whose p a) ≡ onAnswer (answer n h p (says a)) a (latest n h (whose p a))
   unfolding latest hearing answer
   frame-own p a h = rw (same-self (whose p a))
 
@@ -48,7 +48,7 @@ module _ (n : ℕ) where
   no-port (lost q ∷ h) w l = ap (losing q w) (no-port h w l) ∙ losing-none q w
 
   -- what is said of an identity was said on a port that there is
-  pub on-port : (h : History) (w : Ident) (e : Announcement) → latest n h w ≡ some e → w .port < n
+  pub on-port : (h : History) (w : Ident) (e : Latest) → latest n h w ≡ some e → w .port < n
   on-port h w e z = go (ltb (w .port) n) refl
     where
       go : (b : Bool) → ltb (w .port) n ≡ b → w .port < n

@@ -6,23 +6,29 @@ use contract.Lifetimes.{Lfts}
 use denote.Ref.{now}
 use denote.Triple.Clauses.{AtExit}
 use mathlib.Core.Path.{_≡_, sym, ap, _∙_}
-use mathlib.Core.Logic.{_↔_}
+use mathlib.Core.Logic.{_≢_, _↔_}
 use mathlib.Core.List.{List, [], _∷_}
+use borrow.Author.Tests.{eq-eqb}
 use lib.Dec.{ltb, eqb}
 use lib.ListN.{length}
 use Rattle.tally.specs.Tests.{pick}
 use Rattle.naming.specs.declared.Number.{Number}
 use Rattle.rules.specs.Events as event
-use Rattle.rules.specs.Events.{Said, Heard, says, History, whose}
+use Rattle.rules.specs.Events.{Announcement, Heard, says, History, whose}
 use Rattle.rules.specs.Shares.{sure, most}
+use Rattle.rules.specs.Answers.{refusalOfReply}
 use Rattle.rules.specs.declared.Reply.the-variants.{Recorded, Refreshed, Gone, Refused}
 use Rattle.rules.specs.Model.{Places, reply}
 use Rattle.numbers.specs.Sizes.{ports}
 use Rattle.place.specs.State.{State, octets, state}
-use Rattle.freeing.specs.Calls.{stateAfter}
+use Rattle.fitness.specs.Refusals.{refusalWhenUnfit}
+use Rattle.freeing.specs.Calls.{After, stateAfter, started}
+use Rattle.freeing.specs.declared.Answer.the-variants.{Done}
+use Rattle.freeing.specs.declared.Answer.the-variants as answer-is
 use Rattle.hearing.specs.Frame.{heardOf, Told, stateTold}
 use Rattle.fitness.specs.View.{view}
 use Rattle.questions.specs.declared.Count.the-variants as count-is
+use Rattle.questions.specs.Sight.{refusalOfSight}
 use Rattle.questions.specs.declared.Sight.the-variants.{Nobody, At}
 use Rattle.freeing.proofs.start.Kinds as start-kinds
 use Rattle.freeing.proofs.start.Reads as start
@@ -39,31 +45,33 @@ use Rattle.questions.proofs.who_sees.Reads as who-sees
 use Rattle.history.specs.Past.{held, answer}
 use Rattle.history.specs.Words.{Neighbour}
 use Rattle.history.specs.Demand.{New, CommonTaken, Demand3}
-use Rattle.history.specs.Calls.{Called, begun, frame, waited, unplugged, Names, Lowest}
-use Rattle.history.proofs.CallsLaws.{demand3-table, demand3-replies, demand3-answers, demand3-holds}
+use Rattle.history.specs.Calls.{Called, begun, frame, waited, unplugged, NeighbourNames, Lowest}
+use Rattle.fitness.proofs.FitLaws.{fit-parts}
+use Rattle.hearing.proofs.ReplyLaws.{fit-not-1}
+use Rattle.history.proofs.CallsLaws.{always-fit, demand3-table, demand3-replies, demand3-answers, demand3-passed, demand3-lost, demand3-holds}
 use Rattle.history.proofs.SeesLaws.{demand3-sees, demand3-unseen}
 
 -- A run: each call is made on the table and the octets that the call before left, and may return whatever its contract allows.
 -- The parameters are the table, the buffer, then a port and a frame, seconds, or a port.
 pub data Ran : State → History → Type 0 where
-  started : (κs : Lfts 1) (a : Dens κs start-kinds.ps) (r : resT start-kinds.r κs .Denot) (x : AtExit (endedOf 1 start-kinds.ps start-kinds.r) κs)
+  ran-start : (κs : Lfts 1) (a : Dens κs start-kinds.ps) (r : resT start-kinds.r κs .Denot) (x : AtExit (endedOf 1 start-kinds.ps start-kinds.r) κs)
       → length (now (a .1 .0)) ≡ octets → start.Post κs a r x → Ran (state (r .table) (now (x .1 .0))) []
-  heard : {h : History} (κs : Lfts 2) (a : Dens κs frame-kinds.ps) (r : resT frame-kinds.r κs .Denot) (x : AtExit (endedOf 2 frame-kinds.ps frame-kinds.r) κs)
+  ran-frame : {h : History} (κs : Lfts 2) (a : Dens κs frame-kinds.ps) (r : resT frame-kinds.r κs .Denot) (x : AtExit (endedOf 2 frame-kinds.ps frame-kinds.r) κs)
       → Ran (state (a .0) (now (a .1 .0))) h → frame-on-port.Post κs a r x
       → Ran (state (r .table) (now (x .1 .0))) (event.frame (a .1 .1 .0) (heardOf (now (a .1 .1 .1 .0))) ∷ h)
-  passed : {h : History} (κs : Lfts 1) (a : Dens κs passed-kinds.ps) (r : resT passed-kinds.r κs .Denot) (x : AtExit (endedOf 1 passed-kinds.ps passed-kinds.r) κs)
+  ran-passed : {h : History} (κs : Lfts 1) (a : Dens κs passed-kinds.ps) (r : resT passed-kinds.r κs .Denot) (x : AtExit (endedOf 1 passed-kinds.ps passed-kinds.r) κs)
       → Ran (state (a .0) (now (a .1 .0))) h → seconds-passed.Post κs a r x → Ran (state (r .table) (now (x .1 .0))) (event.passed (a .1 .1 .0) ∷ h)
-  lost : {h : History} (κs : Lfts 1) (a : Dens κs lost-kinds.ps) (r : resT lost-kinds.r κs .Denot) (x : AtExit (endedOf 1 lost-kinds.ps lost-kinds.r) κs)
+  ran-lost : {h : History} (κs : Lfts 1) (a : Dens κs lost-kinds.ps) (r : resT lost-kinds.r κs .Denot) (x : AtExit (endedOf 1 lost-kinds.ps lost-kinds.r) κs)
       → Ran (state (a .0) (now (a .1 .0))) h → link-lost.Post κs a r x → Ran (state (r .table) (now (x .1 .0))) (event.lost (a .1 .1 .0) ∷ h)
 
 arrives : {s s′ : State} {h : History} → s′ ≡ s → Called s h → Called s′ h
 arrives e c = rw e c
 
 pub ran-called : {s : State} {h : History} → Ran s h → Called s h
-ran-called (started κs a r x l post) = arrives (ap stateAfter (post .exact)) (begun (state (a .0) (now (a .1 .0))) l)
-ran-called (heard κs a r x c post) = arrives (ap stateTold (post .exact)) (frame (ran-called c) (a .1 .1 .0) (now (a .1 .1 .1 .0)))
-ran-called (passed κs a r x c post) = arrives (ap stateAfter (post .exact)) (waited (ran-called c) (a .1 .1 .0))
-ran-called (lost κs a r x c post) = arrives (ap stateAfter (post .exact)) (unplugged (ran-called c) (a .1 .1 .0))
+ran-called (ran-start κs a r x l post) = arrives (ap stateAfter (post .exact)) (begun (state (a .0) (now (a .1 .0))) l)
+ran-called (ran-frame κs a r x c post) = arrives (ap stateTold (post .exact)) (frame (ran-called c) (a .1 .1 .0) (now (a .1 .1 .1 .0)))
+ran-called (ran-passed κs a r x c post) = arrives (ap stateAfter (post .exact)) (waited (ran-called c) (a .1 .1 .0))
+ran-called (ran-lost κs a r x c post) = arrives (ap stateAfter (post .exact)) (unplugged (ran-called c) (a .1 .1 .0))
 
 -- Demand 3, of the table after any run
 pub demand3-code : {s : State} {h : History} → Ran s h → Demand3 ports h (view s)
@@ -81,8 +89,12 @@ module _ {h : History} (κs : Lfts 2) (a : Dens κs frame-kinds.ps) (r : resT fr
   pub code-answers : r .reply ≡ answer ports h port (heardOf octetsHeard)
   code-answers = ap (λ (t : Told). t .outcome .reply) (post .exact) ∙ demand3-answers (ran-called c) port octetsHeard
 
+  -- never with 1: after a Start the table is fit (R1)
+  pub code-frame-not-1 : r .reply ≢ Refused 1
+  code-frame-not-1 e = fit-not-1 port octetsHeard (state (a .0) (now (a .1 .0))) (always-fit (ran-called c)) (sym (post .refusal) ∙ ap refusalOfReply e)
+
   -- a valid frame, sentence by sentence
-  module _ (said : Said) (e : heardOf octetsHeard ≡ says said) where
+  module _ (said : Announcement) (e : heardOf octetsHeard ≡ says said) where
     as-model : r .reply ≡ reply ports port (says said) (view (state (a .0) (now (a .1 .0))))
     as-model =
         ap (λ (t : Told). t .outcome .reply) (post .exact)
@@ -103,6 +115,24 @@ module _ {h : History} (κs : Lfts 2) (a : Dens κs frame-kinds.ps) (r : resT fr
 
     pub code-known : Neighbour ports h (whose port said) → r .reply ≡ pick (eqb (said .seconds) 0) Gone Refreshed
     code-known b = as-model ∙ demand3-code c .known port said b
+
+-- `start` was called with a buffer of the right length, as it is after a run: it is done
+pub code-started : (κs : Lfts 1) (a : Dens κs start-kinds.ps) (r : resT start-kinds.r κs .Denot) (x : AtExit (endedOf 1 start-kinds.ps start-kinds.r) κs)
+    → length (now (a .1 .0)) ≡ octets → start.Post κs a r x → r .answer ≡ Done
+unfolding started
+code-started κs a r x l post = ap (λ (y : After). y .outcome .answer) (post .exact) ∙ rw (eq-eqb (length (now (a .1 .0))) octets l)
+
+pub ran-octets : {s : State} {h : History} → Ran s h → length (s .buf) ≡ octets
+ran-octets {s} c = fit-parts s (always-fit (ran-called c)) .long
+
+-- `seconds_passed` and `link_lost` were called after a run: they are done, but for a port that there is not
+pub code-passed : {h : History} (κs : Lfts 1) (a : Dens κs passed-kinds.ps) (r : resT passed-kinds.r κs .Denot) (x : AtExit (endedOf 1 passed-kinds.ps passed-kinds.r) κs)
+    → Ran (state (a .0) (now (a .1 .0))) h → seconds-passed.Post κs a r x → r .answer ≡ Done
+code-passed κs a r x c post = ap (λ (y : After). y .outcome .answer) (post .exact) ∙ demand3-passed (ran-called c) (a .1 .1 .0)
+
+pub code-lost : {h : History} (κs : Lfts 1) (a : Dens κs lost-kinds.ps) (r : resT lost-kinds.r κs .Denot) (x : AtExit (endedOf 1 lost-kinds.ps lost-kinds.r) κs)
+    → Ran (state (a .0) (now (a .1 .0))) h → link-lost.Post κs a r x → r .answer ≡ pick (ltb (a .1 .1 .0) ports) Done (answer-is.Refused 2)
+code-lost κs a r x c post = ap (λ (y : After). y .outcome .answer) (post .exact) ∙ demand3-lost (ran-called c) (a .1 .1 .0)
 
 -- `how_many` was asked after a run
 pub code-holds : {h : History} (κs : Lfts 1) (a : Dens κs many-kinds.ps) (r : resT many-kinds.r κs .Denot) (x : AtExit (endedOf 1 many-kinds.ps many-kinds.r) κs)
@@ -126,7 +156,12 @@ module _ {h : History} (κs : Lfts 1) (a : Dens κs sees-kinds.ps) (r : resT see
       let d = demand3-sees (ran-called c) address from k i p in
       (λ e. d .0 (sym (post .exact) ∙ e), λ l. post .exact ∙ d .1 l)
 
-  pub code-unseen : (r ≡ Nobody) ↔ ((k : ℕ) (y : Number × Number) → from ≤ k → ¬ Names h table address k y)
+  -- never refused: there is no port, and after a Start the table is fit (R1)
+  pub code-sees-unrefused : refusalOfSight r ≡ 0
+  unfolding refusalWhenUnfit
+  code-sees-unrefused = post .refusal ∙ rw (always-fit (ran-called c))
+
+  pub code-unseen : (r ≡ Nobody) ↔ ((k : ℕ) (y : Number × Number) → from ≤ k → ¬ NeighbourNames h table address k y)
   code-unseen =
       let d = demand3-unseen (ran-called c) address from in
       (λ e. d .0 (sym (post .exact) ∙ e), λ g. post .exact ∙ d .1 g)

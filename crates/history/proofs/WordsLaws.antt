@@ -2,16 +2,15 @@
 -- An event is quiet for an identity, or clears what was said of it, or is its new announcement; a quiet one only lets time pass.
 use Prim.Native.Nat.{ℕ, _+_}
 use mathlib.Core.Path.{_≡_, refl, sym, ap, _∙_}
-use mathlib.Core.Logic.{_≢_, _↔_}
+use mathlib.Core.Logic.{_↔_}
 use mathlib.Core.Bool.{Bool, true, false}
 use mathlib.Core.List.{[], _∷_, _++_}
 use mathlib.Core.Option.{Option, none, some}
-use native.Mathlib.Omega.{arith}
 use borrow.Author.Tests.{eqb-false, ne-eqb, ltb-true, ltb-false, lt-ltb}
 use lib.Dec.{ltb, eqb}
 use Rattle.tally.specs.Tests.{pick}
 use Rattle.rules.specs.Identity.{Ident, same}
-use Rattle.rules.specs.Events.{Said, unread, says, Event, frame, passed, lost, History, whose}
+use Rattle.rules.specs.Events.{Announcement, unread, says, Event, frame, passed, lost, History, whose}
 use Rattle.rules.specs.Shares.{room}
 use Rattle.rules.specs.Answers.{answerTo}
 use Rattle.rules.specs.declared.Room.{Room}
@@ -19,13 +18,13 @@ use Rattle.rules.specs.declared.Room.the-variants.{Enough, Full, Taken}
 use Rattle.rules.specs.declared.Reply.{Reply}
 use Rattle.rules.specs.declared.Reply.the-variants.{Recorded, Refreshed, Gone, UnknownGoodbye, Refused}
 use Rattle.rules.proofs.IdentityLaws.{clash, same-true, same-self}
-use Rattle.history.specs.Past.{Announcement, inForce, older, fresh, onAnswer, named, numberBy, answerBy, hearing, latest, present, answer}
-use Rattle.history.specs.Words.{Accepted, Quiet, AllQuiet, secondsOf, secondsIn, Last, Neighbour}
+use Rattle.history.specs.Past.{Latest, inForce, older, fresh, onAnswer, named, countBy, answerBy, hearing, latest, present, answer}
+use Rattle.history.specs.Words.{Accepted, Quiet, AllQuiet, secondsOf, secondsOver, Last, Neighbour}
 use Rattle.history.proofs.PastLaws.{older-zero, frame-own, no-port}
 
 -- What an answer makes of what was said before
 
-accepted-fresh : (r : Reply) (a : Said) (old : Option Announcement) → Accepted r → onAnswer r a old ≡ fresh a
+accepted-fresh : (r : Reply) (a : Announcement) (old : Option Latest) → Accepted r → onAnswer r a old ≡ fresh a
 accepted-fresh Recorded a old h = refl
 accepted-fresh Refreshed a old h = refl
 accepted-fresh Gone a old h = absurd h
@@ -36,14 +35,14 @@ accepted-fresh (Refused k) a old h = absurd h
 abbrev byTests : Bool → Bool → Bool → Room → Reply
 byTests b g k rm = pick b (answerTo g k rm) (Refused 2)
 
-refused-stays : (b k : Bool) (rm : Room) (a : Said) (old : Option Announcement) → ¬ Accepted (byTests b false k rm) → onAnswer (byTests b false k rm) a old ≡ old
+refused-stays : (b k : Bool) (rm : Room) (a : Announcement) (old : Option Latest) → ¬ Accepted (byTests b false k rm) → onAnswer (byTests b false k rm) a old ≡ old
 refused-stays true true rm a old h = absurd (h tt)
 refused-stays true false Enough a old h = absurd (h tt)
 refused-stays true false Full a old h = refl
 refused-stays true false Taken a old h = refl
 refused-stays false k rm a old h = refl
 
-goodbye-clears : (b k : Bool) (rm : Room) (a : Said) (old : Option Announcement) → (b ≡ false → old ≡ none) → onAnswer (byTests b true k rm) a old ≡ none
+goodbye-clears : (b k : Bool) (rm : Room) (a : Announcement) (old : Option Latest) → (b ≡ false → old ≡ none) → onAnswer (byTests b true k rm) a old ≡ none
 goodbye-clears true true rm a old h = refl
 goodbye-clears true false rm a old h = refl
 goodbye-clears false k rm a old h = h refl
@@ -63,13 +62,13 @@ module _ (n : ℕ) where
           let r = q (same-true w (whose p a) d) in
           let z = ne-eqb (a .seconds) 0 (r .0) in
           rw z
-          (refused-stays (ltb p n) (inForce (latest n h (whose p a))) (room n (numberBy (latest n h) (named h)) (whose p a)) a (latest n h w)
+          (refused-stays (ltb p n) (inForce (latest n h (whose p a))) (room n (countBy (latest n h) (named h)) (whose p a)) a (latest n h w)
           (rw z at (r .1)))
   quiet-step (passed s) h w q = refl
   quiet-step (lost r) h w q = rw (ne-eqb (w .port) r q) (sym (older-zero (latest n h w)))
 
   -- a recorded announcement is the latest from then on
-  at-once : (h : History) (w : Ident) (a : Said) → whose (w .port) a ≡ w → Accepted (answer n h (w .port) (says a))
+  at-once : (h : History) (w : Ident) (a : Announcement) → whose (w .port) a ≡ w → Accepted (answer n h (w .port) (says a))
       → latest n (frame (w .port) (says a) ∷ h) w ≡ fresh a
   at-once h w a o r =
       ap (latest n (frame (w .port) (says a) ∷ h)) (sym o)
@@ -79,17 +78,17 @@ module _ (n : ℕ) where
   data Effect (e : Event) (h : History) (w : Ident) : Type 0 where
     quietly : Quiet n w e h → Effect e h w
     cleared : latest n (e ∷ h) w ≡ none → Effect e h w
-    announced : (a : Said) → e ≡ frame (w .port) (says a) → whose (w .port) a ≡ w → Accepted (answer n h (w .port) (says a)) → Effect e h w
+    announced : (a : Announcement) → e ≡ frame (w .port) (says a) → whose (w .port) a ≡ w → Accepted (answer n h (w .port) (says a)) → Effect e h w
 
-  goodbye-own : (p : ℕ) (a : Said) (h : History) → eqb (a .seconds) 0 ≡ true → latest n (frame p (says a) ∷ h) (whose p a) ≡ none
+  goodbye-own : (p : ℕ) (a : Announcement) (h : History) → eqb (a .seconds) 0 ≡ true → latest n (frame p (says a) ∷ h) (whose p a) ≡ none
   unfolding answer answerBy
   goodbye-own p a h g =
       frame-own n p a h
       ∙ rw g
-      (goodbye-clears (ltb p n) (inForce (latest n h (whose p a))) (room n (numberBy (latest n h) (named h)) (whose p a)) a (latest n h (whose p a))
+      (goodbye-clears (ltb p n) (inForce (latest n h (whose p a))) (room n (countBy (latest n h) (named h)) (whose p a)) a (latest n h (whose p a))
       (λ d. no-port n h (whose p a) (ltb-false p n d)))
 
-  effect-own : (p : ℕ) (a : Said) (h : History) → Effect (frame p (says a)) h (whose p a)
+  effect-own : (p : ℕ) (a : Announcement) (h : History) → Effect (frame p (says a)) h (whose p a)
   effect-own p a h = go (eqb (a .seconds) 0) refl (answer n h p (says a)) refl
     where
       go : (g : Bool) → eqb (a .seconds) 0 ≡ g → (r : Reply) → answer n h p (says a) ≡ r → Effect (frame p (says a)) h (whose p a)
@@ -118,11 +117,11 @@ module _ (n : ℕ) where
   -- A history
 
   -- what is computed, in words
-  abbrev Told : History → Ident → Option Announcement → Type 0
+  abbrev Told : History → Ident → Option Latest → Type 0
   Told h w none = Unit {0}
   Told h w (some e) = Last n h w (e .said) (e .since)
 
-  extend : (e : Event) (h : History) (w : Ident) (o : Option Announcement) → Quiet n w e h → Told h w o → Told (e ∷ h) w (older (secondsOf e) o)
+  extend : (e : Event) (h : History) (w : Ident) (o : Option Latest) → Quiet n w e h → Told h w o → Told (e ∷ h) w (older (secondsOf e) o)
   extend e h w none q l = tt
   extend e h w (some y) q l =
       record {
@@ -147,15 +146,15 @@ module _ (n : ℕ) where
           let y : latest n (e ∷ h) w ≡ fresh a = ap (λ (x : Event). latest n (x ∷ h) w) z ∙ at-once h w a o r in
           rw y (record { before = h; later = []; split = ap (λ (x : Event). x ∷ h) z; own = o; recorded = r; quiet = tt; passed-since = refl })
 
-  from-words : (later before : History) (w : Ident) (a : Said) → whose (w .port) a ≡ w → Accepted (answer n before (w .port) (says a))
+  from-words : (later before : History) (w : Ident) (a : Announcement) → whose (w .port) a ≡ w → Accepted (answer n before (w .port) (says a))
       → AllQuiet n w later (frame (w .port) (says a) ∷ before)
-      → latest n (later ++ (frame (w .port) (says a) ∷ before)) w ≡ some (record { said = a; since = secondsIn later })
+      → latest n (later ++ (frame (w .port) (says a) ∷ before)) w ≡ some (record { said = a; since = secondsOver later })
   from-words [] before w a o r q = at-once before w a o r
   from-words (e ∷ later) before w a o r q =
       quiet-step e (later ++ (frame (w .port) (says a) ∷ before)) w (q .0) ∙ ap (older (secondsOf e)) (from-words later before w a o r (q .1))
 
   -- the latest announcement of an identity, computed and in words
-  pub in-words : (h : History) (w : Ident) (a : Said) (since : ℕ) → (latest n h w ≡ some (record { said = a; since = since })) ↔ Last n h w a since
+  pub in-words : (h : History) (w : Ident) (a : Announcement) (since : ℕ) → (latest n h w ≡ some (record { said = a; since = since })) ↔ Last n h w a since
   in-words h w a since = (
     λ e. rw e at (to-words h w),
     λ l. ap (λ (x : History). latest n x w) (l .split)
@@ -172,17 +171,7 @@ module _ (n : ℕ) where
   unfolding present
   present-neighbour h w z = go (latest n h w) refl z
     where
-      go : (o : Option Announcement) → latest n h w ≡ o → inForce o ≡ true → Neighbour n h w
+      go : (o : Option Latest) → latest n h w ≡ o → inForce o ≡ true → Neighbour n h w
       go none e d = absurd (clash false d refl)
       go (some y) e d =
           record { said = y .said; since = y .since; last = in-words h w (y .said) (y .since) .0 e; time-left = ltb-true (y .since) (y .said .seconds) d }
-
-  -- whoever is answered recorded or refreshed is a neighbour at once
-  pub accepted-neighbour : (h : History) (p : ℕ) (a : Said) → Accepted (answer n h p (says a)) → a .seconds ≢ 0 → Neighbour n (frame p (says a) ∷ h) (whose p a)
-  accepted-neighbour h p a r s =
-      record {
-        said = a;
-        since = 0;
-        last = record { before = h; later = []; split = refl; own = refl; recorded = r; quiet = tt; passed-since = refl };
-        time-left = omega arith;
-      }

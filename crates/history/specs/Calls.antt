@@ -25,7 +25,7 @@ pub data Called : State → History → Type 0 where
   unplugged : {s : State} {h : History} → Called s h → (p : ℕ) → Called (stateAfter (linkLost p s)) (event.lost p ∷ h)
 
 -- place k has the record of a neighbour after h, and that neighbour's latest announcement names the address a with the two numbers x (A4)
-pub record Names (h : History) (t : Places) (a : List ℕ) (k : ℕ) (x : Number × Number) : Type 0 where
+pub record NeighbourNames (h : History) (t : Places) (a : List ℕ) (k : ℕ) (x : Number × Number) : Type 0 where
   pub rec : Rec
   pub there : getD t k none ≡ some rec
   pub neighbour : Neighbour ports h (rec .who)
@@ -34,5 +34,5 @@ pub record Names (h : History) (t : Places) (a : List ℕ) (k : ℕ) (x : Number
 -- k is the lowest such place at or after `from` (N11)
 pub record Lowest (h : History) (t : Places) (a : List ℕ) (from k : ℕ) (x : Number × Number) : Type 0 where
   pub least : from ≤ k
-  pub names : Names h t a k x
-  pub before : (j : ℕ) (y : Number × Number) → from ≤ j → j < k → ¬ Names h t a j y
+  pub names : NeighbourNames h t a k x
+  pub before : (j : ℕ) (y : Number × Number) → from ≤ j → j < k → ¬ NeighbourNames h t a j y

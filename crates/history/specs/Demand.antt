@@ -10,10 +10,10 @@ use lib.Dec.{eqb}
 use lib.ListN.{length, getD}
 use Rattle.tally.specs.Tests.{pick}
 use Rattle.rules.specs.Identity.{Ident}
-use Rattle.rules.specs.Events.{Said, Heard, says, History, whose}
+use Rattle.rules.specs.Events.{Announcement, Heard, says, History, whose}
 use Rattle.rules.specs.Shares.{sure, most, commonFor, beyond}
 use Rattle.rules.specs.declared.Reply.the-variants.{Recorded, Refreshed, Gone, Refused}
-use Rattle.rules.specs.Model.{Rec, Places, holds, reply}
+use Rattle.rules.specs.Model.{Rec, Places, holdsIn, reply}
 use Rattle.rules.specs.Fit.{Once}
 use Rattle.history.specs.Past.{among, held, answer}
 use Rattle.history.specs.Words.{Last, Neighbour}
@@ -29,7 +29,7 @@ pub record Knows (t : Places) (w : Ident) : Type 0 where
   pub own : rec .who ≡ w
 
 -- "a valid new one with time to live": heard on a port that there is, of an identity that is no neighbour after h, with seconds above 0
-pub record New (n : ℕ) (h : History) (p : ℕ) (a : Said) : Type 0 where
+pub record New (n : ℕ) (h : History) (p : ℕ) (a : Announcement) : Type 0 where
   pub port : p < n
   pub unknown : ¬ Neighbour n h (whose p a)
   pub lives : a .seconds ≢ 0
@@ -48,23 +48,23 @@ pub record Demand3 (n : ℕ) (h : History) (t : Places) : Type 0 where
   -- with no goodbye and no lost link on its port since,
   pub exactly : (w : Ident) → Knows t w ↔ Neighbour n h w
   -- and it holds that announcement's octets."
-  pub octets : (r : Rec) (a : Said) (since : ℕ) → Has t r → Last n h (r .who) a since → r .octets ≡ a .octets
+  pub octets : (r : Rec) (a : Announcement) (since : ℕ) → Has t r → Last n h (r .who) a since → r .octets ≡ a .octets
   -- with the seconds that are left of it
-  pub seconds-left : (r : Rec) (a : Said) (since : ℕ) → Has t r → Last n h (r .who) a since → since + r .left ≡ a .seconds
+  pub seconds-left : (r : Rec) (a : Announcement) (since : ℕ) → Has t r → Last n h (r .who) a since → since + r .left ≡ a .seconds
   -- and in one place
   pub once : Once t
   -- every frame is answered as the history says
   pub answers : (p : ℕ) (x : Heard) → reply n p x t ≡ answer n h p x
   -- "A port with fewer than two neighbours always gets a valid new one with time to live recorded, whatever the other seven carried."
-  pub sure-places : (p : ℕ) (a : Said) → New n h p a → held n h p < sure → reply n p (says a) t ≡ Recorded
+  pub sure-places : (p : ℕ) (a : Announcement) → New n h p a → held n h p < sure → reply n p (says a) t ≡ Recorded
   -- "No port ever holds more than six."
-  pub six : (p : ℕ) → holds t p ≤ most
-  pub seventh : (p : ℕ) (a : Said) → New n h p a → held n h p ≡ most → reply n p (says a) t ≡ Refused 7
+  pub six : (p : ℕ) → holdsIn t p ≤ most
+  pub seventh : (p : ℕ) (a : Announcement) → New n h p a → held n h p ≡ most → reply n p (says a) t ≡ Refused 7
   -- "A port with two to five is refused such a one exactly when the sixteen common places are taken.": then with 8, else it is recorded
-  pub common-places : (p : ℕ) (a : Said) → New n h p a → sure ≤ held n h p → held n h p < most
+  pub common-places : (p : ℕ) (a : Announcement) → New n h p a → sure ≤ held n h p → held n h p < most
       → (CommonTaken n h → reply n p (says a) t ≡ Refused 8) × (¬ CommonTaken n h → reply n p (says a) t ≡ Recorded)
   -- "A known neighbour is never refused for room."
-  pub known : (p : ℕ) (a : Said) → Neighbour n h (whose p a) → reply n p (says a) t ≡ pick (eqb (a .seconds) 0) Gone Refreshed
+  pub known : (p : ℕ) (a : Announcement) → Neighbour n h (whose p a) → reply n p (says a) t ≡ pick (eqb (a .seconds) 0) Gone Refreshed
   -- how many a port holds is the history's number, and that is the number of its neighbours: the length of any list of them
-  pub how-many : (p : ℕ) → holds t p ≡ held n h p
+  pub how-many : (p : ℕ) → holdsIn t p ≡ held n h p
   pub counted : (p : ℕ) (l : List Ident) → Distinct l → ((w : Ident) → (among w l ≡ true) ↔ ((w .port ≡ p) × Neighbour n h w)) → length l ≡ held n h p

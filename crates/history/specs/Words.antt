@@ -1,11 +1,11 @@
 -- Who is a neighbour, in the words of demand 3: the latest recorded announcement, what came since, and the time that is left.
--- Here nothing is computed; WordsLaws.antt shows that Past.antt computes this.
+-- What a frame was answered is taken from Past.antt; WordsLaws.antt shows that `latest` there computes all else.
 use Prim.Native.Nat.{ℕ, _+_, _<_}
 use mathlib.Core.Path.{_≡_}
 use mathlib.Core.Logic.{_≢_}
 use mathlib.Core.List.{[], _∷_, _++_}
 use Rattle.rules.specs.Identity.{Ident}
-use Rattle.rules.specs.Events.{Said, unread, says, Event, frame, passed, lost, History, whose}
+use Rattle.rules.specs.Events.{Announcement, unread, says, Event, frame, passed, lost, History, whose}
 use Rattle.rules.specs.declared.Reply.{Reply}
 use Rattle.rules.specs.declared.Reply.the-variants.{Recorded, Refreshed, Gone, UnknownGoodbye, Refused}
 use Rattle.history.specs.Past.{answer}
@@ -35,23 +35,23 @@ secondsOf (frame p x) = 0
 secondsOf (passed s) = s
 secondsOf (lost q) = 0
 
-abbrev pub secondsIn : History → ℕ
-secondsIn [] = 0
-secondsIn (e ∷ h) = secondsIn h + secondsOf e
+abbrev pub secondsOver : History → ℕ
+secondsOver [] = 0
+secondsOver (e ∷ h) = secondsOver h + secondsOf e
 
 -- a is the latest recorded announcement of w in h (first or repeat); no goodbye of w and no lost link on its port came since
-pub record Last (n : ℕ) (h : History) (w : Ident) (a : Said) (since : ℕ) : Type 0 where
+pub record Last (n : ℕ) (h : History) (w : Ident) (a : Announcement) (since : ℕ) : Type 0 where
   pub before : History
   pub later : History
   pub split : h ≡ later ++ (frame (w .port) (says a) ∷ before)
   pub own : whose (w .port) a ≡ w
   pub recorded : Accepted (answer n before (w .port) (says a))
   pub quiet : AllQuiet n w later (frame (w .port) (says a) ∷ before)
-  pub passed-since : secondsIn later ≡ since
+  pub passed-since : secondsOver later ≡ since
 
 -- w is a neighbour after h: such an announcement, with time left
 pub record Neighbour (n : ℕ) (h : History) (w : Ident) : Type 0 where
-  pub said : Said
+  pub said : Announcement
   pub since : ℕ
   pub last : Last n h w said since
   pub time-left : since < said .seconds

@@ -1,4 +1,4 @@
-// judge: reads one frame from standard input and says what it announces, in four lines, or `refused ` and the number (P1).
+// judge: reads one frame from standard input and says what it announces, in four lines, or `refused ` and the number (J1).
 // The reader decides everything; this program only reads, fills in a form and writes the answer at once.
 use forms::put_form;
 use libc::STDIN_FILENO;

@@ -1,5 +1,5 @@
 -- Some numbers and octets as they are printed, computed: one digit, two, and the most seconds that there are; octets with and without a dash.
--- They hold the definitions to P2.
+-- They hold the definitions to J2.
 use mathlib.Core.Path.{_≡_, refl}
 use mathlib.Core.List.{[], _∷_}
 use Rattle.line.specs.Decimal.{digitsIn, decimal}

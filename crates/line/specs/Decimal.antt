@@ -1,4 +1,4 @@
--- A number as it is printed (P2): its decimal digits in ASCII, the last behind those of the tenth part.
+-- A number as it is printed (J2): its decimal digits in ASCII, the last behind those of the tenth part.
 -- 0 is one digit.
 use Prim.Native.Nat.{ℕ, zero, suc, _+_, _/_, _%_}
 use mathlib.Core.List.{List, [], _∷_, _++_}

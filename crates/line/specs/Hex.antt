@@ -1,4 +1,4 @@
--- Octets as they are printed (P2): two capital hex digits each, in ASCII.
+-- Octets as they are printed (J2): two capital hex digits each, in ASCII.
 -- An address and a port ID are joined by `-`; the stored answers have octets without it.
 use Prim.Native.Nat.{ℕ, _+_, _/_, _%_}
 use mathlib.Core.List.{List, [], _∷_, _++_}

@@ -1,4 +1,4 @@
-// What is printed (P2): numbers in decimal and octets in hex, put into a lent line.
+// What is printed (J2): numbers in decimal and octets in hex, put into a lent line.
 // Every function takes any line and any place, answers the place behind what it put, and leaves out what does not fit.
 ghost use mathlib.Core.Path.{_≡_};
 ghost use mathlib.Core.List.{_∷_};

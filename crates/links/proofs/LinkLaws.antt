@@ -8,7 +8,7 @@ use lib.ListN.{length, getD}
 use borrow.Author.Tests.{eqb-true, leb-true}
 use lib.Dec.{leb, eqb}
 use Rattle.tally.specs.Tests.{all}
-use Rattle.tally.specs.Ranges.{some}
+use Rattle.tally.specs.Ranges.{someBelow}
 use Rattle.tally.proofs.TestsLaws.{both-true, held}
 use Rattle.octets.specs.Address.{sixAt, sameOctets}
 use Rattle.links.specs.Link.{typeCount, numberCount, addressCount, fourOk, linkOk, listOk, namesOf}
@@ -19,7 +19,7 @@ module _ (b : List ℕ) {n m k : ℕ} (p : n ≡ getD b 4 0) (q : m ≡ getD b (
   unfolding linkOk
   link-counts = rw (r, q, p)
 
-  pub names-counts : (a : List ℕ) → namesOf b a ≡ some (λ i. sameOctets (sixAt b (7 + n + m + 6 * i)) a) k
+  pub names-counts : (a : List ℕ) → namesOf b a ≡ someBelow (λ i. sameOctets (sixAt b (7 + n + m + 6 * i)) a) k
   unfolding namesOf
   names-counts a = rw (r, q, p)
 
@@ -29,16 +29,16 @@ list-count b p = rw p
 
 -- what a well formed link information has
 pub record LinkHas (b : List ℕ) : Type 0 where
-  pub typeShort : typeCount b ≤ 4
-  pub numberShort : numberCount b ≤ 4
-  pub ends : length b ≡ 7 + typeCount b + numberCount b + 6 * addressCount b
+  pub typeShort : typeCount 4 b ≤ 4
+  pub numberShort : numberCount 4 b ≤ 4
+  pub ends : length b ≡ 7 + typeCount 4 b + numberCount 4 b + 6 * addressCount 4 b
 
 pub link-has : (b : List ℕ) → linkOk b ≡ true → LinkHas b
 unfolding linkOk
 link-has b e =
-    let h = held (fourOk (typeCount b) ∷ fourOk (numberCount b) ∷ eqb (length b) (7 + typeCount b + numberCount b + 6 * addressCount b) ∷ []) e in
+    let h = held (fourOk (typeCount 4 b) ∷ fourOk (numberCount 4 b) ∷ eqb (length b) (7 + typeCount 4 b + numberCount 4 b + 6 * addressCount 4 b) ∷ []) e in
     record {
-      typeShort = leb-true (typeCount b) 4 (both-true (leb 1 (typeCount b)) (leb (typeCount b) 4) (h .0) .1);
-      numberShort = leb-true (numberCount b) 4 (both-true (leb 1 (numberCount b)) (leb (numberCount b) 4) (h .1 .0) .1);
-      ends = eqb-true (length b) (7 + typeCount b + numberCount b + 6 * addressCount b) (h .1 .1 .0);
+      typeShort = leb-true (typeCount 4 b) 4 (both-true (leb 1 (typeCount 4 b)) (leb (typeCount 4 b) 4) (h .0) .1);
+      numberShort = leb-true (numberCount 4 b) 4 (both-true (leb 1 (numberCount 4 b)) (leb (numberCount 4 b) 4) (h .1 .0) .1);
+      ends = eqb-true (length b) (7 + typeCount 4 b + numberCount 4 b + 6 * addressCount 4 b) (h .1 .1 .0);
     }

@@ -3,4 +3,5 @@
 pub mod ExtentLaws
 pub mod Stable
 pub mod Few
+pub mod RowsLaws
 pub mod Sole

@@ -14,9 +14,9 @@ use Rattle.walk.specs.declared.Extent.{Extent}
 use Rattle.walk.specs.declared.Extent.the-variants.{Refused, Octets}
 
 -- the refusal number of an extent, 0 where it is none; the number of octets, 0 where it is refused
-abbrev pub refusalIn : Extent → ℕ
-refusalIn (Refused n) = n
-refusalIn (Octets e) = 0
+abbrev pub refusalOfExtent : Extent → ℕ
+refusalOfExtent (Refused n) = n
+refusalOfExtent (Octets e) = 0
 
 abbrev pub octetsIn : Extent → ℕ
 octetsIn (Refused n) = 0

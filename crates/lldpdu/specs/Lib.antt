@@ -1,4 +1,5 @@
--- The definitions of this crate, in the order in which they are read: the whole LLDPDU, its outline.
+-- The definitions of this crate, in the order in which they are read: the whole LLDPDU, its refusals as rows, its outline.
 -- Nothing here looks at what a field behind the first three TLVs says.
 pub mod Extent
+pub mod Rows
 pub mod Outline

@@ -4,13 +4,14 @@ use Prim.Native.Nat.{ℕ, _-_, _≤_, _<_}
 use mathlib.Core.Path.{_≡_, refl, sym, ap, _∙_}
 use mathlib.Core.Logic.{_≢_}
 use mathlib.Core.Bool.{Bool, true, false}
-use mathlib.Core.List.{List}
+use mathlib.Core.List.{List, [], _∷_}
 use native.Mathlib.Omega.{arith}
 use borrow.Author.Tests.{eq-eqb, ne-eqb, le-leb, lt-leb, lt-ltb, le-ltb}
 use lib.ListN.{length, getD, take, drop, length-take, length-drop}
 use lib.Seq.{take-all}
-use lib.Dec.{leb}
-use Rattle.tally.specs.Tests.{both}
+use lib.Dec.{leb, ltb}
+use Rattle.tally.specs.Tests.{all}
+use Rattle.tally.proofs.TestsLaws.{all-fails}
 use Rattle.octets.specs.Numbers.{pairOf}
 use Rattle.whole.specs.Whole.{zeros}
 use Rattle.lldpdu.specs.Outline.{outlineOf}
@@ -22,7 +23,7 @@ use Rattle.numbers.specs.Sizes.{ports}
 use Rattle.place.proofs.WhoseLaws.{outline-ident}
 use Rattle.place.specs.State.{Place, size, ident}
 use Rattle.marks.specs.PlaceFit.{exactly, whole, okFree, okUsed, okPlace}
-use Rattle.marks.specs.Marks.{lastTwo, markOf, check, checkFree, checkUsed, checkPlace}
+use Rattle.marks.specs.Marks.{lastTwo, identityMark, check, checkFree, checkUsed, checkPlace}
 use Rattle.marks.specs.declared.Check.{Check}
 use Rattle.marks.specs.declared.Check.the-variants.{Unfit, Mark}
 
@@ -57,14 +58,18 @@ module _ (p left : ℕ) (b : List ℕ) where
       unfolding checkFree
       free-fit z = sym (rw (eq-eqb p 0 h, eq-eqb left 0 k, z))
 
--- A used place (N5 c)
+-- A used place (N5 c): one test that fails decides, wherever it stands
 
 module _ (p left : ℕ) (l rest : List ℕ) {o : Outline} (e : o ≡ outlineOf l) where
-  whole-by : (x : Extent) → o .extent ≡ x → whole l left ≡ both (exactly x (length l)) (both (leb 1 left) (both (leb left (o .seconds)) true))
+  -- what is asked of l, whose outline has the extent x
+  abbrev asked : Extent → List Bool
+  asked x = exactly x (length l) ∷ leb 1 left ∷ leb left (o .seconds) ∷ []
+
+  whole-by : (x : Extent) → o .extent ≡ x → whole l left ≡ all (asked x)
   unfolding whole
   whole-by x q =
-      ap (λ (u : Outline). both (exactly (u .extent) (length l)) (both (leb 1 left) (both (leb left (u .seconds)) true))) (sym e)
-      ∙ ap (λ (u : Extent). both (exactly u (length l)) (both (leb 1 left) (both (leb left (o .seconds)) true))) q
+      ap (λ (u : Outline). all (exactly (u .extent) (length l) ∷ leb 1 left ∷ leb left (u .seconds) ∷ [])) (sym e)
+      ∙ ap (λ (u : Extent). all (asked u)) q
 
   unfit : whole l left ≡ false → Unfit ≡ checkUsed p left l rest
   unfolding checkUsed
@@ -74,29 +79,29 @@ module _ (p left : ℕ) (l rest : List ℕ) {o : Outline} (e : o ≡ outlineOf l
   used-refused {n} q = unfit (whole-by (Refused n) q)
 
   module _ {n : ℕ} (q : o .extent ≡ Octets n) where
+    fails : (k : ℕ) → getD (asked (Octets n)) k true ≡ false → Unfit ≡ checkUsed p left l rest
+    fails k h = unfit (whole-by (Octets n) q ∙ all-fails (asked (Octets n)) k h)
+
     pub used-other : n ≢ length l → Unfit ≡ checkUsed p left l rest
-    used-other h = unfit (whole-by (Octets n) q ∙ rw (ne-eqb n (length l) h))
+    used-other h = fails 0 (ne-eqb n (length l) h)
 
-    module _ (h : n ≡ length l) where
-      pub used-over : left < 1 → Unfit ≡ checkUsed p left l rest
-      used-over k = unfit (whole-by (Octets n) q ∙ rw (eq-eqb n (length l) h, lt-leb 1 left k))
+    pub used-over : left < 1 → Unfit ≡ checkUsed p left l rest
+    used-over h = fails 1 (lt-leb 1 left h)
 
-      module _ (k : 1 ≤ left) where
-        pub used-late : o .seconds < left → Unfit ≡ checkUsed p left l rest
-        used-late m = unfit (whole-by (Octets n) q ∙ rw (eq-eqb n (length l) h, le-leb 1 left k, lt-leb left (o .seconds) m))
+    pub used-late : o .seconds < left → Unfit ≡ checkUsed p left l rest
+    used-late h = fails 2 (lt-leb left (o .seconds) h)
 
-        module _ (m : left ≤ o .seconds) where
-          pub in-time : whole l left ≡ true
-          in-time = whole-by (Octets n) q ∙ rw (eq-eqb n (length l) h, le-leb 1 left k, le-leb left (o .seconds) m)
+    pub in-time : n ≡ length l → 1 ≤ left → left ≤ o .seconds → whole l left ≡ true
+    in-time h k m = whole-by (Octets n) q ∙ rw (eq-eqb n (length l) h, le-leb 1 left k, le-leb left (o .seconds) m)
 
   module _ (t : whole l left ≡ true) where
     pub used-rest : zeros rest ≡ false → Unfit ≡ checkUsed p left l rest
     unfolding checkUsed
     used-rest z = sym (rw (t, z))
 
-    pub used-fit : {c : ℕ} {i : List ℕ} → zeros rest ≡ true → c ≡ markOf (ident p (o .chassis) (o .subtype) i) → i ≡ textOf l (o .port) → Mark c ≡ checkUsed p left l rest
+    pub used-fit : {c : ℕ} {i : List ℕ} → zeros rest ≡ true → c ≡ identityMark (ident p (o .chassis) (o .subtype) i) → i ≡ textOf l (o .port) → Mark c ≡ checkUsed p left l rest
     unfolding checkUsed
-    used-fit z w v = ap Mark (w ∙ ap (λ (j : List ℕ). markOf (ident p (o .chassis) (o .subtype) j)) v ∙ ap markOf (outline-ident p l e)) ∙ sym (rw (t, z))
+    used-fit z w v = ap Mark (w ∙ ap (λ (j : List ℕ). identityMark (ident p (o .chassis) (o .subtype) j)) v ∙ ap identityMark (outline-ident p l e)) ∙ sym (rw (t, z))
 
 -- A place
 
@@ -110,18 +115,23 @@ module _ (x : Place) where
   place-free e = sym (rw (eq-eqb (x .len) 0 e))
 
   module _ (u : x .len ≢ 0) where
-    pub place-port : ports ≤ x .port → Unfit ≡ checkPlace x
+    -- what is asked of a used place; here too one test that fails decides
+    abbrev wanted : List Bool
+    wanted = ltb (x .port) ports ∷ leb (x .len) size ∷ whole (take (x .len) (x .body)) (x .seconds) ∷ zeros (drop (x .len) (x .body)) ∷ []
+
+    misfit : (k : ℕ) → getD wanted k true ≡ false → Unfit ≡ checkPlace x
     unfolding checkPlace okPlace okUsed
-    place-port h = sym (rw (ne-eqb (x .len) 0 u, le-ltb (x .port) ports h))
+    misfit k h = sym (rw (ne-eqb (x .len) 0 u, all-fails wanted k h))
 
-    module _ (h : x .port < ports) where
-      pub place-long : size < x .len → Unfit ≡ checkPlace x
-      unfolding checkPlace okPlace okUsed
-      place-long k = sym (rw (ne-eqb (x .len) 0 u, lt-ltb (x .port) ports h, lt-leb (x .len) size k))
+    pub place-port : ports ≤ x .port → Unfit ≡ checkPlace x
+    place-port h = misfit 0 (le-ltb (x .port) ports h)
 
-      pub place-used : x .len ≤ size → checkUsed (x .port) (x .seconds) (take (x .len) (x .body)) (drop (x .len) (x .body)) ≡ checkPlace x
-      unfolding checkUsed checkPlace okPlace okUsed
-      place-used k = sym (rw (ne-eqb (x .len) 0 u, lt-ltb (x .port) ports h, le-leb (x .len) size k))
+    pub place-long : size < x .len → Unfit ≡ checkPlace x
+    place-long h = misfit 1 (lt-leb (x .len) size h)
+
+    pub place-used : x .port < ports → x .len ≤ size → checkUsed (x .port) (x .seconds) (take (x .len) (x .body)) (drop (x .len) (x .body)) ≡ checkPlace x
+    unfolding checkUsed checkPlace okPlace okUsed
+    place-used h k = sym (rw (ne-eqb (x .len) 0 u, lt-ltb (x .port) ports h, le-leb (x .len) size k))
 
 -- a mark tells that the place is fit, and is its mark
 pub marked : (ok : Bool) (m n : ℕ) → Mark m ≡ check ok n → (ok ≡ true) × (m ≡ n)

@@ -22,11 +22,11 @@ use Rattle.marks.specs.declared.Marks.{Marks}
 unfoldable pub lastTwo : List ℕ → ℕ
 lastTwo l = pick (ltb (length l) 2) (getD l 0 0) (pairOf (getD l (length l - 2) 0) (getD l (length l - 1) 0))
 
-unfoldable pub markOf : Ident → ℕ
-markOf w = pairOf (w .port) (getD (w .chassis) 5 0) * 65536 + lastTwo (w .portId)
+unfoldable pub identityMark : Ident → ℕ
+identityMark w = pairOf (w .port) (getD (w .chassis) 5 0) * 65536 + lastTwo (w .portId)
 
 abbrev pub markAt : Place → ℕ
-markAt x = pick (used x) (markOf (whoAt x)) 0
+markAt x = pick (used x) (identityMark (whoAt x)) 0
 
 -- a mark where the place is fit by itself
 abbrev pub check : Bool → ℕ → Check
@@ -36,7 +36,7 @@ unfoldable pub checkFree : ℕ → ℕ → List ℕ → Check
 checkFree p left b = check (all (eqb p 0 ∷ eqb left 0 ∷ zeros b ∷ [])) 0
 
 unfoldable pub checkUsed : ℕ → ℕ → List ℕ → List ℕ → Check
-checkUsed p left l rest = check (all (whole l left ∷ zeros rest ∷ [])) (markOf (whose p (said l)))
+checkUsed p left l rest = check (all (whole l left ∷ zeros rest ∷ [])) (identityMark (whose p (said l)))
 
 unfoldable pub checkPlace : Place → Check
 checkPlace x = check (okPlace x) (markAt x)

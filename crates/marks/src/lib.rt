@@ -6,7 +6,7 @@ ghost use Prim.Native.Nat.{_<_};
 ghost use lib.ListN.{replicate};
 ghost use Rattle.numbers.specs.Sizes.{places};
 ghost use Rattle.place.specs.State.{at, state, ident};
-ghost use Rattle.marks.specs.Marks.{lastTwo, markOf, checkFree, checkUsed, checkPlace, Checks};
+ghost use Rattle.marks.specs.Marks.{lastTwo, identityMark, checkFree, checkUsed, checkPlace, Checks};
 use lldpdu::Extent;
 use lldpdu::outline_lldpdu;
 use numbers::PLACES;
@@ -43,8 +43,8 @@ fn last_two(id: &[u8]) -> u16
 
 // The mark of an identity: unequal marks tell unequal identities, and cost one comparison of a number.
 // It takes the last octets, since the first ones of a chassis are its maker's.
-fn mark_of(p: u8, chassis: [u8; 6], subtype: u8, id: &[u8]) -> u32
-    ensures { λ r. ⌜ r ≡ markOf (ident p chassis subtype (now (id .entry))) ⌝ }
+fn identity_mark(p: u8, chassis: [u8; 6], subtype: u8, id: &[u8]) -> u32
+    ensures { λ r. ⌜ r ≡ identityMark (ident p chassis subtype (now (id .entry))) ⌝ }
 {
     pair(p, chassis[5]) as u32 * 65536 + last_two(id) as u32
 }
@@ -86,7 +86,7 @@ fn check_used(p: u8, left: u16, l: &[u8], rest: &[u8]) -> Check
             }
             if all_zero(rest) {
                 let chassis = o.chassis;
-                Check::Mark(mark_of(p, chassis, o.subtype, text_of(l, o.port)))
+                Check::Mark(identity_mark(p, chassis, o.subtype, text_of(l, o.port)))
             } else {
                 Check::Unfit
             }

@@ -20,11 +20,11 @@ use Rattle.fields.specs.declared.Field.the-variants.{Skipped, Malformed, Says}
 use Rattle.links.proofs.LinkLaws.{link-has}
 use Rattle.fields.proofs.FieldLaws.{Fits, field-fits}
 use Rattle.walk.specs.Walk.{Placed, headOf, stepOf, Walked, walk}
-use Rattle.lldpdu.specs.Extent.{refusalIn, restOf, extentOf}
+use Rattle.lldpdu.specs.Extent.{refusalOfExtent, restOf, extentOf}
 use Rattle.walk.specs.declared.Extent.{Extent}
 use Rattle.walk.specs.declared.Extent.the-variants.{Refused, Octets}
 use Rattle.found.specs.Contents.{onField, contents}
-use Rattle.naming.specs.Naming.{refusalOf, numbersOf, isLink, isLinkIn, numberIn, numbersIn, Numbered, firstNaming, namingAt, namingOf, seenBy, firstSeen, seenAt, Names}
+use Rattle.naming.specs.Naming.{refusalOfNaming, numbersOf, isLink, isLinkIn, numberIn, numbersIn, Numbered, firstNaming, namingAt, namingOf, seenBy, firstSeen, seenAt, Names}
 use Rattle.naming.specs.declared.Number.{Number}
 use Rattle.naming.specs.declared.Naming.{Naming}
 use Rattle.walk.proofs.WalkLaws.{walk-refused, walk-end, walk-next}
@@ -84,20 +84,20 @@ module _ (s : List ℕ) (at : ℕ) (a : List ℕ) where
 -- What the answer says
 
 -- it is refused exactly as the LLDPDU is, with the same number
-unrefused : (a : List ℕ) (ps : List Placed) → refusalOf (firstNaming a ps) ≡ 0
+unrefused : (a : List ℕ) (ps : List Placed) → refusalOfNaming (firstNaming a ps) ≡ 0
 unfolding firstNaming numbersIn
 unrefused a [] = refl
 unrefused a (p ∷ ps) = go (both (isLinkIn (p .tlv .kind) (p .tlv .body)) (namesOf (p .tlv .body) a)) (unrefused a ps)
   where
-    go : (b : Bool) → refusalOf (firstNaming a ps) ≡ 0 → refusalOf (pick b (numbersIn (p .tlv .body)) (firstNaming a ps)) ≡ 0
+    go : (b : Bool) → refusalOfNaming (firstNaming a ps) ≡ 0 → refusalOfNaming (pick b (numbersIn (p .tlv .body)) (firstNaming a ps)) ≡ 0
     go true ih = refl
     go false ih = ih
 
-pub naming-refusal : (s a : List ℕ) → refusalOf (namingOf s a) ≡ refusalIn (extentOf s)
+pub naming-refusal : (s a : List ℕ) → refusalOfNaming (namingOf s a) ≡ refusalOfExtent (extentOf s)
 unfolding namingOf
 naming-refusal s a = go (extentOf s)
   where
-    go : (x : Extent) → refusalOf (namingAt x s a) ≡ refusalIn x
+    go : (x : Extent) → refusalOfNaming (namingAt x s a) ≡ refusalOfExtent x
     go (Refused n) = refl
     go (Octets e) = unrefused a (restOf s .tlvs)
 
@@ -118,16 +118,16 @@ module _ (b a : List ℕ) where
         place (i + 5) (j + 5) (omega arith),
       )
 
-  names-content : (n m : ℕ) → ranges.some (λ i. sameOctets (sixAt (drop 4 b) (3 + n + m + 6 * i)) a) ≡ ranges.some (λ i. sameOctets (sixAt b (7 + n + m + 6 * i)) a)
-  names-content n m = ap ranges.some (fun-ext (λ i. ap (λ (x : List ℕ). sameOctets x a) (six-place (3 + n + m + 6 * i) (7 + n + m + 6 * i) (omega arith))))
+  names-content : (n m : ℕ) → ranges.someBelow (λ i. sameOctets (sixAt (drop 4 b) (3 + n + m + 6 * i)) a) ≡ ranges.someBelow (λ i. sameOctets (sixAt b (7 + n + m + 6 * i)) a)
+  names-content n m = ap ranges.someBelow (fun-ext (λ i. ap (λ (x : List ℕ). sameOctets x a) (six-place (3 + n + m + 6 * i) (7 + n + m + 6 * i) (omega arith))))
 
   seen-content : (more : Option (Number × Number))
-      → seenBy a (drop 4 b) (getD (drop 4 b) 0 0) (getD (drop 4 b) (1 + getD (drop 4 b) 0 0) 0) more
+      → seenBy a (drop 4 b) (typeCount 0 (drop 4 b)) (numberCount 0 (drop 4 b)) more
       ≡ pick (namesOf b a) (numbersOf (numbersIn b)) more
   unfolding namesOf numbersIn
   seen-content more =
-      let n = typeCount b in
-      let m = numberCount b in
+      let n = typeCount 4 b in
+      let m = numberCount 4 b in
       let from : (i j : ℕ) → 4 + i ≡ j → drop i (drop 4 b) ≡ drop j b = λ i j q. drop-drop i 4 b ∙ ap (λ (k : ℕ). drop k b) q in
       rw (
         place 0 4 refl,
@@ -172,4 +172,4 @@ naming-numbers s a = go (extentOf s)
 
 -- the one answer says what it should
 pub names-exactly : (s a : List ℕ) {r : Naming} → r ≡ namingOf s a → Names s a r
-names-exactly s a e = record { exact = e; refusal = ap refusalOf e ∙ naming-refusal s a; numbers = ap numbersOf e ∙ naming-numbers s a }
+names-exactly s a e = record { exact = e; refusal = ap refusalOfNaming e ∙ naming-refusal s a; numbers = ap numbersOf e ∙ naming-numbers s a }

@@ -5,18 +5,18 @@ use mathlib.Core.Path.{_≡_}
 use mathlib.Core.List.{List, [], _∷_}
 use mathlib.Core.Bool.{Bool, false}
 use mathlib.Core.Option.{Option, none, some}
-use lib.ListN.{length, take, drop, getD}
+use lib.ListN.{length, take, drop}
 use lib.Dec.{eqb}
 use Rattle.tally.specs.Tests.{pick, both}
 use Rattle.tally.specs.Ranges as ranges
 use Rattle.octets.specs.Address.{sixAt, sameOctets}
 use Rattle.octets.specs.Numbers.{valueOf}
-use Rattle.links.specs.Link.{typeCount, numberCount, namesOf}
+use Rattle.links.specs.Link.{typeCount, numberCount, addressCount, namesOf}
 use Rattle.fields.specs.Field.{link, fieldOf}
 use Rattle.fields.specs.declared.Field.{Field}
 use Rattle.fields.specs.declared.Field.the-variants.{Skipped, Malformed, Says}
 use Rattle.walk.specs.Walk.{Placed}
-use Rattle.lldpdu.specs.Extent.{refusalIn, restOf, extentOf}
+use Rattle.lldpdu.specs.Extent.{refusalOfExtent, restOf, extentOf}
 use Rattle.walk.specs.declared.Extent.{Extent}
 use Rattle.walk.specs.declared.Extent.the-variants as extent-is
 use Rattle.found.specs.Contents.{LinkInfo, linkIn, contents, tlvsIn}
@@ -25,10 +25,10 @@ use Rattle.naming.specs.declared.Naming.{Naming}
 use Rattle.naming.specs.declared.Naming.the-variants.{Refused, Nowhere, Link}
 
 -- the refusal number of an answer, 0 where it is none; and the two numbers, where there are any
-abbrev pub refusalOf : Naming → ℕ
-refusalOf (Refused n) = n
-refusalOf Nowhere = 0
-refusalOf (Link interface port) = 0
+abbrev pub refusalOfNaming : Naming → ℕ
+refusalOfNaming (Refused n) = n
+refusalOfNaming Nowhere = 0
+refusalOfNaming (Link interface port) = 0
 
 abbrev pub numbersOf : Naming → Option (Number × Number)
 numbersOf (Refused n) = none
@@ -48,13 +48,13 @@ numberIn l = record { octets = length l; value = valueOf l }
 
 -- b is the information string of a well-formed link information (T7)
 unfoldable pub numbersIn : List ℕ → Naming
-numbersIn b = Link (numberIn (take (typeCount b) (drop 5 b))) (numberIn (take (numberCount b) (drop (6 + typeCount b) b)))
+numbersIn b = Link (numberIn (take (typeCount 4 b) (drop 5 b))) (numberIn (take (numberCount 4 b) (drop (6 + typeCount 4 b) b)))
 
 -- what the code needs before it may cut the two numbers out
 pub record Numbered (b : List ℕ) : Type 0 where
-  pub typeShort : typeCount b ≤ 4
-  pub numberShort : numberCount b ≤ 4
-  pub inside : 6 + typeCount b + numberCount b ≤ length b
+  pub typeShort : typeCount 4 b ≤ 4
+  pub numberShort : numberCount 4 b ≤ 4
+  pub inside : 6 + typeCount 4 b + numberCount 4 b ≤ length b
 
 unfoldable pub firstNaming : List ℕ → List Placed → Naming
 firstNaming a [] = Nowhere
@@ -71,7 +71,7 @@ namingOf s a = namingAt (extentOf s) s a
 
 -- c is the content of a link information, with n and m octets in its two numbers; one of its k addresses is a
 abbrev pub namedIn : List ℕ → ℕ → ℕ → List ℕ → Bool
-namedIn c n m a = ranges.some (λ i. sameOctets (sixAt c (3 + n + m + 6 * i)) a) (getD c (2 + n + m) 0)
+namedIn c n m a = ranges.someBelow (λ i. sameOctets (sixAt c (3 + n + m + 6 * i)) a) (addressCount 0 c)
 
 abbrev pub numbersFrom : LinkInfo → Number × Number
 numbersFrom l = (numberIn (l .interface), numberIn (l .port))
@@ -82,7 +82,7 @@ seenBy a c n m more = pick (namedIn c n m a) (some (numbersFrom (linkIn c n m)))
 -- the numbers of the first link information that names a
 unfoldable pub firstSeen : List ℕ → List (List ℕ) → Option (Number × Number)
 firstSeen a [] = none
-firstSeen a (c ∷ cs) = seenBy a c (getD c 0 0) (getD c (1 + getD c 0 0) 0) (firstSeen a cs)
+firstSeen a (c ∷ cs) = seenBy a c (typeCount 0 c) (numberCount 0 c) (firstSeen a cs)
 
 abbrev pub seenAt : Extent → List ℕ → List ℕ → Option (Number × Number)
 seenAt (extent-is.Refused n) s a = none
@@ -91,5 +91,5 @@ seenAt (extent-is.Octets e) s a = firstSeen a (contents link (tlvsIn s))
 -- The contract of who sees an address: this answer and no other, with the refusal and the numbers that the rules give
 pub record Names (s a : List ℕ) (r : Naming) : Type 0 where
   pub exact : r ≡ namingOf s a
-  pub refusal : refusalOf r ≡ refusalIn (extentOf s)
+  pub refusal : refusalOfNaming r ≡ refusalOfExtent (extentOf s)
   pub numbers : numbersOf r ≡ seenAt (extentOf s) s a

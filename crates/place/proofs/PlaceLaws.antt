@@ -1,4 +1,4 @@
--- Laws of the table place by place: a place put back, a step at one place, every place in turn.
+-- Laws of the table place by place: a place put back, a change at one place, every place in turn.
 -- They hold for any state, fit or not.
 use Prim.Native.Nat.{ℕ, _+_}
 use mathlib.Core.Path.{_≡_, refl, ap, sym, _∙_}
@@ -6,7 +6,7 @@ use mathlib.Core.List.{List, _++_}
 use native.Mathlib.Numerals.{add-one}
 use lib.ListN.{set, take, drop, take-append-drop}
 use lib.Seq.{set-getD, drop-drop}
-use Rattle.place.specs.State.{Place, State, state, at, put, step, each}
+use Rattle.place.specs.State.{Place, State, state, at, put, changeAt, each}
 
 -- the octets of a place put back where they were
 body-back : (a n : ℕ) (l : List ℕ) → take a l ++ (take n (drop a l) ++ drop (a + n) l) ≡ l
@@ -26,15 +26,15 @@ module _ (s : State) (k : ℕ) where
   unfolding put at
   put-seconds v = simp (set-getD, body-back)
 
--- a step, by what g makes of place k
+-- a change, by what g makes of place k
 module _ (g : Place → Place) (k : ℕ) (s : State) where
-  pub step-stays : g (at s k) ≡ at s k → s ≡ step g k s
-  unfolding step
-  step-stays e = sym (ap (put s k) e ∙ put-at s k)
+  pub change-stays : g (at s k) ≡ at s k → s ≡ changeAt g k s
+  unfolding changeAt
+  change-stays e = sym (ap (put s k) e ∙ put-at s k)
 
-  pub step-puts : {x : Place} {r : State} → r ≡ put s k x → g (at s k) ≡ x → r ≡ step g k s
-  unfolding step
-  step-puts e d = e ∙ sym (ap (put s k) d)
+  pub change-puts : {x : Place} {r : State} → r ≡ put s k x → g (at s k) ≡ x → r ≡ changeAt g k s
+  unfolding changeAt
+  change-puts e d = e ∙ sym (ap (put s k) d)
 
 -- every place in turn
 module _ (g : Place → Place) where
@@ -42,6 +42,6 @@ module _ (g : Place → Place) where
   unfolding each
   each-none s = refl
 
-  pub each-more : (i : ℕ) (s : State) {r t : State} → t ≡ step g i r → r ≡ each g i s → t ≡ each g (i + 1) s
+  pub each-more : (i : ℕ) (s : State) {r t : State} → t ≡ changeAt g i r → r ≡ each g i s → t ≡ each g (i + 1) s
   unfolding each
-  each-more i s e d = e ∙ ap (step g i) d ∙ rw add-one
+  each-more i s e d = e ∙ ap (changeAt g i) d ∙ rw add-one

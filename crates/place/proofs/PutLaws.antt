@@ -9,7 +9,7 @@ use native.Mathlib.Nat.{eq-or-lt-of-le, le-of-suc-le-suc, not-suc-le-zero}
 use native.Mathlib.Omega.{arith}
 use lib.ListN.{length, take, drop, length-set, length-append, length-drop, take-append-drop}
 use lib.Seq.{getD-set-same, getD-set-other, drop-append-le, take-append-le, drop-drop, length-take-le, take-at, drop-at}
-use Rattle.place.specs.State.{Place, State, Sized, size, at, put, step, each}
+use Rattle.place.specs.State.{Place, State, Sized, size, at, put, changeAt, each}
 
 -- Octets over octets
 
@@ -113,8 +113,8 @@ pub record Changed (n : ℕ) (g : Place → Place) (m : ℕ) (s t : State) : Typ
 
 module _ (n : ℕ) (s : State) (z : Sized n s) (g : Place → Place) (keeps : KeepsLong g) where
   -- one place more
-  next : (m : ℕ) (t : State) → m < n → Changed n g m s t → Changed n g (suc m) s (step g m t)
-  unfolding step
+  next : (m : ℕ) (t : State) → m < n → Changed n g m s t → Changed n g (suc m) s (changeAt g m t)
+  unfolding changeAt
   next m t h c =
       let l = keeps (at t m) (body-long n t (c .sized) m h) in
       let here : at (put t m (g (at t m))) m ≡ g (at s m) = at-put-same n t (c .sized) m h (g (at t m)) l ∙ ap g (c .above m (omega arith) h) in

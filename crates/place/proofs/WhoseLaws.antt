@@ -15,7 +15,7 @@ use Rattle.text.specs.Part.{textOf}
 use Rattle.lldpdu.specs.declared.outline.Outline.{Outline}
 use Rattle.rules.specs.Identity.{same}
 use Rattle.rules.specs.Events.{whose}
-use Rattle.place.specs.State.{State, at, used, lldpduAt, ident, said, says, isOf}
+use Rattle.place.specs.State.{State, at, used, lldpduAt, ident, said, isFrom, isOf}
 
 -- the outline of an LLDPDU tells its identity
 pub outline-ident : (p : ℕ) (l : List ℕ) {o : Outline} → o ≡ outlineOf l
@@ -24,10 +24,10 @@ unfolding said
 outline-ident p l e = ap (λ (o : Outline). ident p (o .chassis) (o .subtype) (textOf l (o .port))) e
 
 -- an LLDPDU, by its outline
-pub says-by : (l c : List ℕ) (u : ℕ) (i : List ℕ) {o : Outline} → o ≡ outlineOf l
-    → says l c u i ≡ all (sameOctets (o .chassis) c ∷ eqb (o .subtype) u ∷ sameOctets (textOf l (o .port)) i ∷ [])
-unfolding says same said
-says-by l c u i e =
+pub from-by : (l c : List ℕ) (u : ℕ) (i : List ℕ) {o : Outline} → o ≡ outlineOf l
+    → isFrom l c u i ≡ all (sameOctets (o .chassis) c ∷ eqb (o .subtype) u ∷ sameOctets (textOf l (o .port)) i ∷ [])
+unfolding isFrom same said
+from-by l c u i e =
     ap (λ (o : Outline). all (sameOctets (o .chassis) c ∷ eqb (o .subtype) u ∷ sameOctets (textOf l (o .port)) i ∷ [])) (sym e)
 
 -- place k, asked for an identity on port p
@@ -40,6 +40,6 @@ module _ (s : State) (p : ℕ) (c : List ℕ) (u : ℕ) (i : List ℕ) (k : ℕ)
   unfolding isOf same
   of-other e = sym (rw (ne-eqb (at s k .port) p e, both-false (used (at s k))))
 
-  pub of-says : at s k .len ≢ 0 → at s k .port ≡ p → says (lldpduAt (at s k)) c u i ≡ isOf s (ident p c u i) k
-  unfolding isOf says same
-  of-says e f = sym (rw (ne-eqb (at s k .len) 0 e, eq-eqb (at s k .port) p f))
+  pub of-from : at s k .len ≢ 0 → at s k .port ≡ p → isFrom (lldpduAt (at s k)) c u i ≡ isOf s (ident p c u i) k
+  unfolding isOf isFrom same
+  of-from e f = sym (rw (ne-eqb (at s k .len) 0 e, eq-eqb (at s k .port) p f))

@@ -12,7 +12,7 @@ use Rattle.whole.specs.Whole.{filled}
 use Rattle.lldpdu.specs.Outline.{outlineOf}
 use Rattle.text.specs.Part.{textOf}
 use Rattle.rules.specs.Identity.{Ident, same}
-use Rattle.rules.specs.Events.{Said, whose}
+use Rattle.rules.specs.Events.{Announcement, whose}
 use Rattle.numbers.specs.Sizes.{places}
 use Rattle.numbers.specs.declared.Table.{Table}
 
@@ -63,12 +63,12 @@ unfoldable pub putThere : State → ℕ → Place → State
 putThere s k p = pick (all (ltb k places ∷ eqb (length (s .buf)) octets ∷ leb (p .len) size ∷ [])) (put s k p) s
 
 -- g at place k, and at each place below n
-unfoldable pub step : (Place → Place) → ℕ → State → State
-step g k s = put s k (g (at s k))
+unfoldable pub changeAt : (Place → Place) → ℕ → State → State
+changeAt g k s = put s k (g (at s k))
 
 unfoldable pub each : (Place → Place) → ℕ → State → State
 each g zero s = s
-each g (suc k) s = step g k (each g k s)
+each g (suc k) s = changeAt g k (each g k s)
 
 -- A place
 
@@ -92,7 +92,7 @@ keep p left l = record { port = p; seconds = left; len = length l; body = filled
 abbrev pub ident : ℕ → List ℕ → ℕ → List ℕ → Ident
 ident p c u i = record { port = p; chassis = c; subtype = u; portId = i }
 
-unfoldable pub said : List ℕ → Said
+unfoldable pub said : List ℕ → Announcement
 said l =
     record {
       chassis = outlineOf l .chassis;
@@ -106,8 +106,8 @@ abbrev pub whoAt : Place → Ident
 whoAt x = whose (x .port) (said (lldpduAt x))
 
 -- an LLDPDU has this chassis and port ID, whatever the port
-unfoldable pub says : List ℕ → List ℕ → ℕ → List ℕ → Bool
-says l c u i = same (whose 0 (said l)) (ident 0 c u i)
+unfoldable pub isFrom : List ℕ → List ℕ → ℕ → List ℕ → Bool
+isFrom l c u i = same (whose 0 (said l)) (ident 0 c u i)
 
 -- place k has a record of w
 unfoldable pub isOf : State → Ident → ℕ → Bool
@@ -118,8 +118,8 @@ unfoldable pub find : State → Ident → ℕ
 find s w = firstFrom (isOf s w) 0 places
 
 -- how many used places have an identity that passes g
-unfoldable pub number : State → (Ident → Bool) → ℕ
-number s g = count (λ k. both (used (at s k)) (g (whoAt (at s k)))) places
+unfoldable pub countRecords : State → (Ident → Bool) → ℕ
+countRecords s g = count (λ k. both (used (at s k)) (g (whoAt (at s k)))) places
 
 -- all numbers and all octets 0 (N6)
 abbrev pub empty : State

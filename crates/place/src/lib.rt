@@ -1,7 +1,7 @@
 // One place of the table: its numbers in the struct and its 1,500 octets in the buffer (N1), and whose it is (N2).
 // Any place of any buffer can be named: past the last nothing is kept, and a buffer of another length is read as far as it goes and never written.
 ghost use mathlib.Core.Path.{_≡_};
-ghost use Rattle.place.specs.State.{at, putThere, free, state, lldpduAt, keep, isOf, says, ident};
+ghost use Rattle.place.specs.State.{at, putThere, free, state, lldpduAt, keep, isOf, isFrom, ident};
 use lldpdu::outline_lldpdu;
 use numbers::PLACES;
 use numbers::Table;
@@ -83,8 +83,8 @@ pub fn store(t: Table, buffer: &mut [u8], i: usize, p: u8, left: u16, l: &[u8]) 
 }
 
 // Whether an LLDPDU has this chassis and port ID (N2).
-fn says_so(l: &[u8], chassis: [u8; 6], subtype: u8, id: &[u8]) -> bool
-    ensures { λ r. ⌜ r ≡ says (now (l .entry)) chassis subtype (now (id .entry)) ⌝ }
+fn is_from(l: &[u8], chassis: [u8; 6], subtype: u8, id: &[u8]) -> bool
+    ensures { λ r. ⌜ r ≡ isFrom (now (l .entry)) chassis subtype (now (id .entry)) ⌝ }
 {
     let o = outline_lldpdu(l);
     let own = o.chassis;
@@ -117,5 +117,5 @@ pub fn is_of(
     if t.port[i] != p {
         return false;
     }
-    says_so(lldpdu_at(t, buffer, i), chassis, subtype, id)
+    is_from(lldpdu_at(t, buffer, i), chassis, subtype, id)
 }

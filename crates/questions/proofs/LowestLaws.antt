@@ -21,18 +21,18 @@ use Rattle.naming.specs.declared.Naming.the-variants as naming-is
 use Rattle.rules.specs.Shares.{portIs}
 use Rattle.rules.specs.Model.{Rec}
 use Rattle.numbers.specs.Sizes.{ports, places}
-use Rattle.place.specs.State.{Place, State, at, used, lldpduAt, number}
+use Rattle.place.specs.State.{Place, State, at, used, lldpduAt, countRecords}
 use Rattle.fitness.specs.Fit.{fit}
-use Rattle.questions.specs.Sight.{counted, sightIn, namingAt, onNaming, sightFrom, sight, seenAt, onSeen, seenFrom}
+use Rattle.questions.specs.Sight.{counted, sightIn, namingInPlace, onNaming, sightFrom, sight, seenInPlace, onSeen, seenFrom}
 use Rattle.fitness.specs.View.{recOf, placeOf, view}
 use Rattle.questions.specs.declared.Count.the-variants as count-is
 use Rattle.questions.specs.declared.Sight.{Sight}
 use Rattle.questions.specs.declared.Sight.the-variants.{Nobody, At}
-use Rattle.fitness.proofs.ViewLaws.{getD-view, number-holds}
+use Rattle.fitness.proofs.ViewLaws.{getD-view, count-holds}
 
 -- What the reader finds at a place, by the rules alone
 
-pub naming-seen : (a : List ℕ) (x : Place) → naming.numbersOf (namingAt a x) ≡ seenAt a x
+pub naming-seen : (a : List ℕ) (x : Place) → naming.numbersOf (namingInPlace a x) ≡ seenInPlace a x
 naming-seen a x = go (used x)
   where
     go : (b : Bool)
@@ -41,18 +41,18 @@ naming-seen a x = go (used x)
     go false = refl
 
 -- it is asked of the record that the model has there
-abbrev pub seenIn : List ℕ → Option Rec → Option (Number × Number)
-seenIn a none = none
-seenIn a (some r) = naming.seenAt (extentOf (r .octets)) (r .octets) a
+abbrev pub seenInRecord : List ℕ → Option Rec → Option (Number × Number)
+seenInRecord a none = none
+seenInRecord a (some r) = naming.seenAt (extentOf (r .octets)) (r .octets) a
 
-pub seen-record : (s : State) (a : List ℕ) (k : ℕ) → k < places → seenAt a (at s k) ≡ seenIn a (getD (view s) k none)
+pub seen-record : (s : State) (a : List ℕ) (k : ℕ) → k < places → seenInPlace a (at s k) ≡ seenInRecord a (getD (view s) k none)
 unfolding placeOf
-seen-record s a k l = go (eqb (at s k .len) 0) ∙ ap (seenIn a) (sym (getD-view s k l))
+seen-record s a k l = go (eqb (at s k .len) 0) ∙ ap (seenInRecord a) (sym (getD-view s k l))
   where
     x : Place
     x = at s k
 
-    go : (b : Bool) → pick (not b) (naming.seenAt (extentOf (lldpduAt x)) (lldpduAt x) a) none ≡ seenIn a (pick b none (some (recOf x)))
+    go : (b : Bool) → pick (not b) (naming.seenAt (extentOf (lldpduAt x)) (lldpduAt x) a) none ≡ seenInRecord a (pick b none (some (recOf x)))
     go true = refl
     go false = refl
 
@@ -85,8 +85,8 @@ module _ (s : State) (a : List ℕ) where
   unfolding sightFrom seenFrom
   sight-is zero k = refl
   sight-is (suc m) k =
-      ap (onNaming (namingAt a (at s k)) k) (sight-is m (suc k))
-      ∙ on-naming (namingAt a (at s k)) k (seenFrom s a (suc k) m)
+      ap (onNaming (namingInPlace a (at s k)) k) (sight-is m (suc k))
+      ∙ on-naming (namingInPlace a (at s k)) k (seenFrom s a (suc k) m)
       ∙ ap (λ (x : Option (Number × Number)). sightOf (onSeen x k (seenFrom s a (suc k) m))) (naming-seen a (at s k))
 
   pub sight-seen : (m k : ℕ) → sightIn (sightFrom s a k m) ≡ seenFrom s a k m
@@ -95,34 +95,34 @@ module _ (s : State) (a : List ℕ) where
   -- Which place it is
 
   -- k is the lowest of the m places from `from` on at which a is named, with the numbers n
-  pub record Lowest (from m k : ℕ) (n : Number × Number) : Type 0 where
+  pub record LowestSeen (from m k : ℕ) (n : Number × Number) : Type 0 where
     pub least : from ≤ k
     pub inside : k < from + m
-    pub names : seenAt a (at s k) ≡ some n
-    pub before : (j : ℕ) → from ≤ j → j < k → seenAt a (at s j) ≡ none
+    pub names : seenInPlace a (at s k) ≡ some n
+    pub before : (j : ℕ) → from ≤ j → j < k → seenInPlace a (at s j) ≡ none
 
   -- at none of them
   abbrev pub Unnamed : ℕ → ℕ → Type 0
-  Unnamed from m = (j : ℕ) → from ≤ j → j < from + m → seenAt a (at s j) ≡ none
+  Unnamed from m = (j : ℕ) → from ≤ j → j < from + m → seenInPlace a (at s j) ≡ none
 
   -- what holds of a place and of those above it holds from that place on
   from-here : (P : ℕ → Type 0) (from to : ℕ) → P from → ((j : ℕ) → suc from ≤ j → j < to → P j) → (j : ℕ) → from ≤ j → j < to → P j
   from-here P from to h r j l u = ⊎-elim (λ (e : from ≡ j). rw (← e) h) (λ (m : from < j). r j m u) (eq-or-lt-of-le l)
 
-  found-lowest : (m from k : ℕ) (n : Number × Number) → seenFrom s a from m ≡ some (k, n) → Lowest from m k n
+  found-lowest : (m from k : ℕ) (n : Number × Number) → seenFrom s a from m ≡ some (k, n) → LowestSeen from m k n
   unfolding seenFrom
   found-lowest zero from k n e = absurd (Option·none-ne-some (k, n) e)
-  found-lowest (suc m) from k n e = go (seenAt a (at s from)) refl (found-lowest m (suc from) k n) e
+  found-lowest (suc m) from k n e = go (seenInPlace a (at s from)) refl (found-lowest m (suc from) k n) e
     where
-      go : (x : Option (Number × Number)) → seenAt a (at s from) ≡ x → (seenFrom s a (suc from) m ≡ some (k, n) → Lowest (suc from) m k n)
-          → onSeen x from (seenFrom s a (suc from) m) ≡ some (k, n) → Lowest from (suc m) k n
+      go : (x : Option (Number × Number)) → seenInPlace a (at s from) ≡ x → (seenFrom s a (suc from) m ≡ some (k, n) → LowestSeen (suc from) m k n)
+          → onSeen x from (seenFrom s a (suc from) m) ≡ some (k, n) → LowestSeen from (suc m) k n
       go none d ih q =
           let r = ih q in
           record {
             least = omega (arith, r .least);
             inside = omega (arith, r .inside);
             names = r .names;
-            before = from-here (λ j. seenAt a (at s j) ≡ none) from k d (r .before);
+            before = from-here (λ j. seenInPlace a (at s j) ≡ none) from k d (r .before);
           }
       go (some y) d ih q =
           let f : from ≡ k = ap (placeIn from) q in
@@ -130,16 +130,16 @@ module _ (s : State) (a : List ℕ) where
           record {
             least = omega arith;
             inside = omega arith;
-            names = ap (λ (j : ℕ). seenAt a (at s j)) (sym f) ∙ d ∙ ap some g;
+            names = ap (λ (j : ℕ). seenInPlace a (at s j)) (sym f) ∙ d ∙ ap some g;
             before = λ j l u. absurd (omega arith);
           }
 
-  lowest-found : (m from k : ℕ) (n : Number × Number) → Lowest from m k n → seenFrom s a from m ≡ some (k, n)
+  lowest-found : (m from k : ℕ) (n : Number × Number) → LowestSeen from m k n → seenFrom s a from m ≡ some (k, n)
   unfolding seenFrom
   lowest-found zero from k n l = absurd (omega (arith, l .least, l .inside))
   lowest-found (suc m) from k n l =
       ⊎-elim
-      (λ (e : from ≡ k). ap (λ (j : ℕ). onSeen (seenAt a (at s j)) j (seenFrom s a (suc from) m)) e ∙ rw (l .names))
+      (λ (e : from ≡ k). ap (λ (j : ℕ). onSeen (seenInPlace a (at s j)) j (seenFrom s a (suc from) m)) e ∙ rw (l .names))
       (λ (u : from < k).
       ap (λ (x : Option (Number × Number)). onSeen x from (seenFrom s a (suc from) m)) (l .before from (omega arith) u)
       ∙ lowest-found m (suc from) k n
@@ -149,11 +149,11 @@ module _ (s : State) (a : List ℕ) where
   found-none : (m from : ℕ) → seenFrom s a from m ≡ none → Unnamed from m
   unfolding seenFrom
   found-none zero from e = λ j l u. absurd (omega arith)
-  found-none (suc m) from e = go (seenAt a (at s from)) refl (found-none m (suc from)) e
+  found-none (suc m) from e = go (seenInPlace a (at s from)) refl (found-none m (suc from)) e
     where
-      go : (x : Option (Number × Number)) → seenAt a (at s from) ≡ x → (seenFrom s a (suc from) m ≡ none → Unnamed (suc from) m)
+      go : (x : Option (Number × Number)) → seenInPlace a (at s from) ≡ x → (seenFrom s a (suc from) m ≡ none → Unnamed (suc from) m)
           → onSeen x from (seenFrom s a (suc from) m) ≡ none → Unnamed from (suc m)
-      go none d ih q = from-here (λ j. seenAt a (at s j) ≡ none) from (from + suc m) d (λ j l u. ih q j l (omega arith))
+      go none d ih q = from-here (λ j. seenInPlace a (at s j) ≡ none) from (from + suc m) d (λ j l u. ih q j l (omega arith))
       go (some y) d ih q = absurd (Option·none-ne-some (from, y) (sym q))
 
   none-found : (m from : ℕ) → Unnamed from m → seenFrom s a from m ≡ none
@@ -165,10 +165,10 @@ module _ (s : State) (a : List ℕ) where
 
   -- the answer names a place exactly where it is the lowest, and nobody exactly where there is none
   module _ (from m : ℕ) where
-    pub at-lowest : (k : ℕ) (i p : Number) → sightFrom s a from m ≡ At k i p → Lowest from m k (i, p)
+    pub at-lowest : (k : ℕ) (i p : Number) → sightFrom s a from m ≡ At k i p → LowestSeen from m k (i, p)
     at-lowest k i p e = found-lowest m from k (i, p) (sym (sight-seen m from) ∙ ap sightIn e)
 
-    pub lowest-at : (k : ℕ) (i p : Number) → Lowest from m k (i, p) → sightFrom s a from m ≡ At k i p
+    pub lowest-at : (k : ℕ) (i p : Number) → LowestSeen from m k (i, p) → sightFrom s a from m ≡ At k i p
     lowest-at k i p l = sight-is m from ∙ ap sightOf (lowest-found m from k (i, p) l)
 
     pub nobody-none : sightFrom s a from m ≡ Nobody → Unnamed from m
@@ -180,11 +180,11 @@ module _ (s : State) (a : List ℕ) where
 -- The calls on a fit table
 
 module _ (s : State) (e : fit s ≡ true) where
-  pub sight-fit : (a : List ℕ) (from : ℕ) → sight a from s ≡ sightFrom s a from (places - from)
+  pub sight-as-from : (a : List ℕ) (from : ℕ) → sight a from s ≡ sightFrom s a from (places - from)
   unfolding sight
-  sight-fit a from = rw e
+  sight-as-from a from = rw e
 
   -- how many is the number of used places with that port
-  pub counted-fit : (p : ℕ) → p < ports → counted p s ≡ count-is.Holds (number s (portIs p))
+  pub counted-fit : (p : ℕ) → p < ports → counted p s ≡ count-is.Holds (countRecords s (portIs p))
   unfolding counted
-  counted-fit p l = rw (e, lt-ltb p ports l) (ap count-is.Holds (sym (number-holds s p)))
+  counted-fit p l = rw (e, lt-ltb p ports l) (ap count-is.Holds (sym (count-holds s p)))

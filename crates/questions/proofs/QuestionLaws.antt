@@ -23,7 +23,7 @@ use Rattle.numbers.specs.Numbers.{holds}
 use Rattle.place.specs.State.{Place, State, at, lldpduAt}
 use Rattle.fitness.specs.Fit.{fit}
 use Rattle.fitness.specs.Refusals.{refusalWhenUnfit, refusalOnPort}
-use Rattle.questions.specs.Sight.{refusalOfCount, heldIn, counted, Counted, refusalOfSight, sightIn, namingAt, onNaming, sightFrom, sight, seenFrom, Sees}
+use Rattle.questions.specs.Sight.{refusalOfCount, heldIn, counted, Counted, refusalOfSight, sightIn, namingInPlace, onNaming, sightFrom, sight, seenFrom, Sees}
 use Rattle.questions.specs.declared.Count.{Count}
 use Rattle.questions.specs.declared.Count.the-variants as count-is
 use Rattle.questions.specs.declared.Sight.{Sight}
@@ -33,9 +33,9 @@ use Rattle.questions.proofs.LowestLaws.{sight-seen}
 -- How many a port holds
 
 module _ (p : ℕ) (s : State) where
-  counted-number : refusalOfCount (counted p s) ≡ refusalOnPort p s
+  counted-refusal : refusalOfCount (counted p s) ≡ refusalOnPort p s
   unfolding counted refusalOnPort
-  counted-number = rw (not-below p ports) (go (fit s) (ltb p ports))
+  counted-refusal = rw (not-below p ports) (go (fit s) (ltb p ports))
     where
       go : (f l : Bool) → refusalOfCount (pick f (pick l (count-is.Holds (holds (s .table) p)) (count-is.Refused 2)) (count-is.Refused 1)) ≡ pick (not f) 1 (pick (not l) 2 0)
       go true true = refl
@@ -53,7 +53,7 @@ module _ (p : ℕ) (s : State) where
       go false l = refl
 
   pub counted-exactly : {r : Count} → r ≡ counted p s → Counted p s r
-  counted-exactly e = record { exact = e; number = ap refusalOfCount e ∙ counted-number; held = ap heldIn e ∙ counted-held }
+  counted-exactly e = record { exact = e; refusal = ap refusalOfCount e ∙ counted-refusal; held = ap heldIn e ∙ counted-held }
 
   pub counted-unfit : fit s ≡ false → count-is.Refused 1 ≡ counted p s
   unfolding counted
@@ -70,10 +70,10 @@ module _ (p : ℕ) (s : State) where
 -- Who sees an address: a place
 
 module _ (a : List ℕ) (x : Place) where
-  pub naming-free : x .len ≡ 0 → naming-is.Nowhere ≡ namingAt a x
+  pub naming-free : x .len ≡ 0 → naming-is.Nowhere ≡ namingInPlace a x
   naming-free e = rw (eq-eqb _ _ e)
 
-  pub naming-used : {r : Naming} {l : List ℕ} → x .len ≢ 0 → r ≡ naming.namingOf l a → l ≡ lldpduAt x → r ≡ namingAt a x
+  pub naming-used : {r : Naming} {l : List ℕ} → x .len ≢ 0 → r ≡ naming.namingOf l a → l ≡ lldpduAt x → r ≡ namingInPlace a x
   naming-used u e d = rw (ne-eqb _ _ u) (e ∙ ap (λ (l : List ℕ). naming.namingOf l a) d)
 
 -- a place that does not name the address is passed over; the first two cases of an answer are those
@@ -85,7 +85,7 @@ passed-over (naming-is.Link i p) k rest h = absurd (⊎-elim (λ (e : _≡_ {A =
 -- Who sees an address: the places in turn
 
 module _ (s : State) (a : List ℕ) where
-  pub sight-step : (i m : ℕ) {n : Naming} → i < m → namingAt a (at s i) ≡ n → sightFrom s a i (m - i) ≡ onNaming n i (sightFrom s a (i + 1) (m - (i + 1)))
+  pub sight-step : (i m : ℕ) {n : Naming} → i < m → namingInPlace a (at s i) ≡ n → sightFrom s a i (m - i) ≡ onNaming n i (sightFrom s a (i + 1) (m - (i + 1)))
   unfolding sightFrom
   sight-step i m l e = let h : m - i ≡ suc (m - (i + 1)) = omega arith in rw (h, e, add-one)
 
@@ -96,7 +96,7 @@ module _ (s : State) (a : List ℕ) where
   unrefused : (m k : ℕ) → refusalOfSight (sightFrom s a k m) ≡ 0
   unfolding sightFrom
   unrefused zero k = refl
-  unrefused (suc m) k = go (namingAt a (at s k)) (unrefused m (suc k))
+  unrefused (suc m) k = go (namingInPlace a (at s k)) (unrefused m (suc k))
     where
       go : (n : Naming) → refusalOfSight (sightFrom s a (suc k) m) ≡ 0 → refusalOfSight (onNaming n k (sightFrom s a (suc k) m)) ≡ 0
       go (naming-is.Refused n) ih = ih
@@ -106,9 +106,9 @@ module _ (s : State) (a : List ℕ) where
 -- Who sees an address: the call
 
 module _ (a : List ℕ) (from : ℕ) (s : State) where
-  sight-number : refusalOfSight (sight a from s) ≡ refusalWhenUnfit s
+  sight-refusal : refusalOfSight (sight a from s) ≡ refusalWhenUnfit s
   unfolding sight refusalWhenUnfit
-  sight-number = go (fit s)
+  sight-refusal = go (fit s)
     where
       go : (b : Bool) → refusalOfSight (pick b (sightFrom s a from (places - from)) (Refused 1)) ≡ pick (not b) 1 0
       go true = unrefused s a (places - from) from
@@ -123,7 +123,7 @@ module _ (a : List ℕ) (from : ℕ) (s : State) where
       go false = refl
 
   pub sees-exactly : {r : Sight} → r ≡ sight a from s → Sees a from s r
-  sees-exactly e = record { exact = e; number = ap refusalOfSight e ∙ sight-number; seen = ap sightIn e ∙ sight-is-seen }
+  sees-exactly e = record { exact = e; refusal = ap refusalOfSight e ∙ sight-refusal; seen = ap sightIn e ∙ sight-is-seen }
 
   pub sight-unfit : fit s ≡ false → Refused 1 ≡ sight a from s
   unfolding sight

@@ -38,7 +38,7 @@ counted p s = pick (fit s) (pick (ltb p ports) (count-is.Holds (holds (s .table)
 -- The contract: this answer and no other, with the refusal and the number that the rules give
 pub record Counted (p : ℕ) (s : State) (r : Count) : Type 0 where
   pub exact : r ≡ counted p s
-  pub number : refusalOfCount r ≡ refusalOnPort p s
+  pub refusal : refusalOfCount r ≡ refusalOnPort p s
   pub held : heldIn r ≡ pick (eqb (refusalOnPort p s) 0) (some (holds (s .table) p)) none
 
 -- Who sees an address
@@ -55,8 +55,8 @@ sightIn Nobody = none
 sightIn (At k i p) = some (k, (i, p))
 
 -- what the reader finds at a place
-abbrev pub namingAt : List ℕ → Place → Naming
-namingAt a x = pick (used x) (naming.namingOf (lldpduAt x) a) naming-is.Nowhere
+abbrev pub namingInPlace : List ℕ → Place → Naming
+namingInPlace a x = pick (used x) (naming.namingOf (lldpduAt x) a) naming-is.Nowhere
 
 abbrev pub onNaming : Naming → ℕ → Sight → Sight
 onNaming (naming-is.Refused n) k rest = rest
@@ -66,14 +66,14 @@ onNaming (naming-is.Link i p) k rest = At k i p
 -- the first of the m places from k on
 unfoldable pub sightFrom : State → List ℕ → ℕ → ℕ → Sight
 sightFrom s a k zero = Nobody
-sightFrom s a k (suc m) = onNaming (namingAt a (at s k)) k (sightFrom s a (suc k) m)
+sightFrom s a k (suc m) = onNaming (namingInPlace a (at s k)) k (sightFrom s a (suc k) m)
 
 unfoldable pub sight : List ℕ → ℕ → State → Sight
 sight a from s = pick (fit s) (sightFrom s a from (places - from)) (Refused 1)
 
 -- the same by the rules alone: the reader's rule for one LLDPDU (A4), asked place by place
-abbrev pub seenAt : List ℕ → Place → Option (Number × Number)
-seenAt a x = pick (used x) (naming.seenAt (extentOf (lldpduAt x)) (lldpduAt x) a) none
+abbrev pub seenInPlace : List ℕ → Place → Option (Number × Number)
+seenInPlace a x = pick (used x) (naming.seenAt (extentOf (lldpduAt x)) (lldpduAt x) a) none
 
 abbrev pub onSeen : Option (Number × Number) → ℕ → Option (ℕ × (Number × Number)) → Option (ℕ × (Number × Number))
 onSeen none k rest = rest
@@ -81,10 +81,10 @@ onSeen (some n) k rest = some (k, n)
 
 unfoldable pub seenFrom : State → List ℕ → ℕ → ℕ → Option (ℕ × (Number × Number))
 seenFrom s a k zero = none
-seenFrom s a k (suc m) = onSeen (seenAt a (at s k)) k (seenFrom s a (suc k) m)
+seenFrom s a k (suc m) = onSeen (seenInPlace a (at s k)) k (seenFrom s a (suc k) m)
 
 -- The contract: this answer and no other, with the refusal, the place and the numbers that the rules give
 pub record Sees (a : List ℕ) (from : ℕ) (s : State) (r : Sight) : Type 0 where
   pub exact : r ≡ sight a from s
-  pub number : refusalOfSight r ≡ refusalWhenUnfit s
+  pub refusal : refusalOfSight r ≡ refusalWhenUnfit s
   pub seen : sightIn r ≡ pick (fit s) (seenFrom s a from (places - from)) none

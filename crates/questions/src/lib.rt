@@ -5,7 +5,7 @@ ghost use Prim.Native.Nat.{_<_, _-_};
 ghost use lib.ListN.{length};
 ghost use Rattle.numbers.specs.Sizes.{places};
 ghost use Rattle.place.specs.State.{octets, at, state};
-ghost use Rattle.questions.specs.Sight.{Counted, namingAt, sightFrom, Sees};
+ghost use Rattle.questions.specs.Sight.{Counted, namingInPlace, sightFrom, Sees};
 use fitness::NO_PORT;
 use fitness::UNFIT;
 use fitness::is_fit;
@@ -46,9 +46,9 @@ pub fn how_many(t: Table, buffer: &[u8], port: usize) -> Count
     Count::Refused(UNFIT)
 }
 
-fn naming_at(t: Table, buffer: &[u8], address: [u8; 6], i: usize) -> Naming
+fn naming_in_place(t: Table, buffer: &[u8], address: [u8; 6], i: usize) -> Naming
     requires { ⌜ (i < places) × (length (now buffer) ≡ octets) ⌝ }
-    ensures { λ r. ⌜ r ≡ namingAt address (at (state t (now (buffer .entry))) i) ⌝ }
+    ensures { λ r. ⌜ r ≡ namingInPlace address (at (state t (now (buffer .entry))) i) ⌝ }
 {
     if t.length[i] == 0 {
         return Naming::Nowhere;
@@ -62,7 +62,7 @@ fn sight_from(t: Table, buffer: &[u8], address: [u8; 6], from: usize) -> Sight
 {
     let mut i = from;
     while i < PLACES {
-        let named = naming_at(t, buffer, address, i);
+        let named = naming_in_place(t, buffer, address, i);
         if let Naming::Link { interface, port } = named {
             return Sight::At {
                 place: i,

@@ -6,12 +6,15 @@ use mathlib.Core.List.{List, [], _∷_, _++_}
 use mathlib.Core.Bool.{true}
 use native.Mathlib.Omega.{arith}
 use borrow.Author.Tests.{le-leb}
-use lib.ListN.{length, getD, length-append, List·getD-append}
+use lib.ListN.{length, drop, getD, length-append, List·getD-append}
 use lib.Seq.{drop-at}
 use lib.Dec.{leb, eqb}
 use Rattle.tally.proofs.TestsLaws.{held}
 use Rattle.octets.specs.Address.{sixAt}
-use Rattle.reader.specs.Frame.{destinationOk, frameOk, onFrame}
+use Rattle.reading.specs.Reading.{refusedReading, readingOf}
+use Rattle.reading.specs.Meaning.{refusedAnswer, answerOf, Reads}
+use Rattle.reading.specs.declared.Reading.{Reading}
+use Rattle.reader.specs.Frame.{destinationOk, frameOk, onFrame, ReadsFrame}
 use Rattle.reader.proofs.FrameLaws.{on-good}
 
 -- a header of fourteen octets that fits, with an LLDPDU of at most 1,500 behind it
@@ -42,3 +45,11 @@ module _ (h s : List ℕ) (l : length h ≡ 14) (o : frameOk h ≡ true) (m : le
 
   pub frame-agrees : {A : Type 0} (three : A) (answer : List ℕ → A) → onFrame three answer (h ++ s) ≡ answer s
   frame-agrees three answer = on-good three answer (h ++ s) header-fits ∙ ap answer (drop-at h s 14 l)
+
+  -- what `read_frame` may answer on the frame, `read_lldpdu` may answer on the octets behind the header
+  pub frame-reads : {r : Reading} → ReadsFrame (h ++ s) r → Reads (drop 14 (h ++ s)) r
+  frame-reads a =
+      record {
+        exact = a .exact ∙ on-good (refusedReading 3) readingOf (h ++ s) header-fits;
+        means = a .means ∙ on-good (refusedAnswer 3) answerOf (h ++ s) header-fits;
+      }

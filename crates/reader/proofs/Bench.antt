@@ -15,7 +15,7 @@ use Rattle.fields.specs.Field.{descriptionOf, linkOf, listOf, isTtc, ttcOf, fie
 use Rattle.walk.specs.Walk.{headOf, stepOf, walk}
 use Rattle.lldpdu.specs.Extent.{behindPort, behindChassis, extentOf}
 use Rattle.found.specs.Contents.{contents, wellFormed, htipOf}
-use Rattle.reading.specs.Meaning.{Answer, refused, answerOf}
+use Rattle.reading.specs.Meaning.{ReaderAnswer, refusedAnswer, answerOf}
 use Rattle.reader.specs.Frame.{frameOk, onFrame}
 
 -- frame A in pieces
@@ -47,7 +47,7 @@ abbrev frame-a : List ℕ
 frame-a = header ++ first ++ category ++ number ++ end
 
 -- a valid frame of n octets, with verdict h and category c
-abbrev valid : ℕ → Bool → List ℕ → Answer
+abbrev valid : ℕ → Bool → List ℕ → ReaderAnswer
 valid n h c =
     record {
       refusal = 0;
@@ -71,27 +71,27 @@ valid n h c =
 
 pub record Case : Type 0 where
   pub frame : List ℕ
-  pub answer : Answer
+  pub answer : ReaderAnswer
 
-abbrev case : List ℕ → Answer → Case
+abbrev case : List ℕ → ReaderAnswer → Case
 case f a = record { frame = f; answer = a }
 
 abbrev pub bench : List Case
 bench =
     case frame-a (valid 37 true (0x41 ∷ []))
     ∷ case (frame-a ++ 0 ∷ 0 ∷ 0 ∷ 0 ∷ 0 ∷ 0 ∷ 0 ∷ 0 ∷ 0 ∷ []) (valid 37 true (0x41 ∷ []))
-    ∷ case (take 50 frame-a) (refused 5)
-    ∷ case (take 14 frame-a) (refused 5)
-    ∷ case (take 13 frame-a) (refused 3)
-    ∷ case (take 12 frame-a ++ 0x08 ∷ 0x00 ∷ drop 14 frame-a) (refused 3)
-    ∷ case (header ++ (0x02 ∷ 0x06 ∷ 0x04 ∷ 0x02 ∷ 0x00 ∷ 0x00 ∷ 0x00 ∷ 0x00 ∷ []) ++ port ++ seconds ++ category ++ number ++ end) (refused 4)
-    ∷ case (header ++ chassis ++ port ++ (0x06 ∷ 0x03 ∷ 0x00 ∷ 0x78 ∷ 0x00 ∷ []) ++ category ++ number ++ end) (refused 4)
-    ∷ case (header ++ first ++ category ++ number ++ (0x06 ∷ 0x02 ∷ 0x00 ∷ 0x78 ∷ []) ++ end) (refused 6)
-    ∷ case (header ++ first ++ category ++ number ++ (0xFE ∷ 0x03 ∷ 0xE0 ∷ 0x27 ∷ 0x1A ∷ []) ++ end) (refused 6)
+    ∷ case (take 50 frame-a) (refusedAnswer 5)
+    ∷ case (take 14 frame-a) (refusedAnswer 5)
+    ∷ case (take 13 frame-a) (refusedAnswer 3)
+    ∷ case (take 12 frame-a ++ 0x08 ∷ 0x00 ∷ drop 14 frame-a) (refusedAnswer 3)
+    ∷ case (header ++ (0x02 ∷ 0x06 ∷ 0x04 ∷ 0x02 ∷ 0x00 ∷ 0x00 ∷ 0x00 ∷ 0x00 ∷ []) ++ port ++ seconds ++ category ++ number ++ end) (refusedAnswer 4)
+    ∷ case (header ++ chassis ++ port ++ (0x06 ∷ 0x03 ∷ 0x00 ∷ 0x78 ∷ 0x00 ∷ []) ++ category ++ number ++ end) (refusedAnswer 4)
+    ∷ case (header ++ first ++ category ++ number ++ (0x06 ∷ 0x02 ∷ 0x00 ∷ 0x78 ∷ []) ++ end) (refusedAnswer 6)
+    ∷ case (header ++ first ++ category ++ number ++ (0xFE ∷ 0x03 ∷ 0xE0 ∷ 0x27 ∷ 0x1A ∷ []) ++ end) (refusedAnswer 6)
     ∷ case (header ++ first ++ (0xFE ∷ 0x05 ∷ 0xE0 ∷ 0x27 ∷ 0x1A ∷ 0x01 ∷ 0x01 ∷ []) ++ number ++ end) (valid 35 false [])
     ∷ case (header ++ first ++ (0xFE ∷ 0x07 ∷ 0xE0 ∷ 0x27 ∷ 0x1A ∷ 0x01 ∷ 0x01 ∷ 0x02 ∷ 0x41 ∷ []) ++ number ++ end) (valid 37 false [])
     ∷ []
 
-pub bench-right : map (λ (c : Case). onFrame (refused 3) answerOf (c .frame)) bench ≡ map (λ (c : Case). c .answer) bench
+pub bench-right : map (λ (c : Case). onFrame (refusedAnswer 3) answerOf (c .frame)) bench ≡ map (λ (c : Case). c .answer) bench
 unfolding sixAt sameOctets charOk textOk wantedOf deviceOf linkOk listOk descriptionOf linkOf listOf isTtc ttcOf fieldOf headOf stepOf walk behindPort behindChassis extentOf contents wellFormed htipOf answerOf frameOk onFrame
 bench-right = refl

@@ -11,7 +11,7 @@ use Rattle.tally.specs.Tests.{pick}
 use Rattle.tally.proofs.TestsLaws.{held}
 use Rattle.octets.specs.Address.{sixAt}
 use Rattle.reading.specs.Reading.{refusedReading, readingOf}
-use Rattle.reading.specs.Meaning.{refused, answerOf, meant}
+use Rattle.reading.specs.Meaning.{refusedAnswer, answerOf, meant}
 use Rattle.reader.specs.Frame.{destinationOk, frameOk, onFrame, ReadsFrame}
 use Rattle.reading.proofs.MeaningLaws.{reading-means}
 use Rattle.reading.specs.declared.Reading.{Reading}
@@ -36,6 +36,6 @@ pub frame-exactly : (f : List ℕ) {r : Reading} → r ≡ onFrame (refusedReadi
 unfolding onFrame
 frame-exactly f e = record { exact = e; means = ap (meant (drop 14 f)) e ∙ go (frameOk f) }
   where
-    go : (b : Bool) → meant (drop 14 f) (pick b (readingOf (drop 14 f)) (refusedReading 3)) ≡ pick b (answerOf (drop 14 f)) (refused 3)
+    go : (b : Bool) → meant (drop 14 f) (pick b (readingOf (drop 14 f)) (refusedReading 3)) ≡ pick b (answerOf (drop 14 f)) (refusedAnswer 3)
     go true = reading-means (drop 14 f)
     go false = refl

@@ -2,5 +2,6 @@
 -- What the code cites comes first, then the theorems that others cite.
 pub mod FrameLaws
 pub mod Agree
+pub mod Refusals
 pub mod Bench
 pub mod Sole

@@ -3,13 +3,15 @@
 use Prim.Native.Nat.{ℕ}
 use mathlib.Core.Path.{_≡_}
 use mathlib.Core.List.{List, [], _∷_}
-use mathlib.Core.Bool.{Bool}
+use mathlib.Core.Bool.{Bool, not}
 use lib.ListN.{length, drop, getD}
 use lib.Dec.{leb, eqb}
 use Rattle.tally.specs.Tests.{pick, either, all}
+use Rattle.tally.specs.Due.{firstDue}
 use Rattle.octets.specs.Address.{sixAt, sameOctets}
+use Rattle.lldpdu.specs.Rows.{rowsOf}
 use Rattle.reading.specs.Reading.{refusedReading, readingOf}
-use Rattle.reading.specs.Meaning.{refused, answerOf, meant}
+use Rattle.reading.specs.Meaning.{refusedAnswer, answerOf, meant}
 use Rattle.reading.specs.declared.Reading.{Reading}
 
 -- FF-FF-FF-FF-FF-FF and 01-80-C2-00-00-0E (F2)
@@ -35,7 +37,11 @@ frameOk f =
 unfoldable pub onFrame : {A : Type 0} → A → (List ℕ → A) → List ℕ → A
 onFrame three answer f = pick (frameOk f) (answer (drop 14 f)) three
 
+-- the refusal number row by row: 3 (R3), then the TLVs front to back (R4 to R6, R11)
+unfoldable pub frameRefusal : List ℕ → ℕ
+frameRefusal f = firstDue ((not (frameOk f), 3) ∷ rowsOf (drop 14 f) [])
+
 -- The contract of the reader on a frame: this answer and no other, and it means what the rules say
 pub record ReadsFrame (f : List ℕ) (r : Reading) : Type 0 where
   pub exact : r ≡ onFrame (refusedReading 3) readingOf f
-  pub means : meant (drop 14 f) r ≡ onFrame (refused 3) answerOf f
+  pub means : meant (drop 14 f) r ≡ onFrame (refusedAnswer 3) answerOf f

@@ -12,7 +12,7 @@ use lib.ListN.{length, drop, getD, length-drop}
 use lib.Seq.{getD-drop, length-take-le}
 use lib.Dec.{eqb}
 use Rattle.tally.specs.Tests.{pick}
-use Rattle.octets.proofs.PartLaws.{part-at, part-of-part, rest-of-part}
+use Rattle.octets.proofs.PartLaws.{part-of-part, rest-of-part}
 use Rattle.links.specs.Link.{typeCount, numberCount, addressCount, linkOk}
 use Rattle.fields.specs.Field.{portDescription, category, manufacturer, modelName, modelNumber, link, addressList, topics, fieldOf}
 use Rattle.fields.specs.declared.Field.{Field}
@@ -23,7 +23,7 @@ use Rattle.walk.specs.Walk.{Tlv, walk}
 use Rattle.lldpdu.specs.Extent.{portLength, restOf, extentOf}
 use Rattle.text.specs.Part.{textOf}
 use Rattle.found.specs.Found.{nothing, markOf, gather, htipIn}
-use Rattle.reading.specs.Reading.{Ready, tableAt, linkAt, listAt, linkParts, foundIn, descriptionAt, readingAt, readingOf}
+use Rattle.reading.specs.Reading.{Ready, linkAt, listAt, linkParts, foundIn, descriptionAt, readingAt, readingOf}
 use Rattle.found.specs.Contents.{onField, contents, LinkInfo, linkIn, tlvsIn}
 use Rattle.reading.specs.Meaning.{firstLink, firstList, saidIn, answerAt, answerOf, linkMeant, listMeant, saidBy, meant, Reads}
 use Rattle.lldpdu.proofs.ExtentLaws.{good, good-port}
@@ -41,47 +41,39 @@ use Rattle.reading.specs.declared.Reading.{Reading}
 
 -- Link information
 
--- what the content of a well formed link information has, with its counts
-pub record LinkContent (c : List ℕ) (n m k : ℕ) : Type 0 where
-  pub typed : getD c 0 0 ≡ n
-  pub numbered : getD c (1 + n) 0 ≡ m
-  pub counted : getD c (2 + n + m) 0 ≡ k
-  pub ends : length c ≡ 3 + n + m + 6 * k
+-- a content of a well formed link information ends with its addresses
+abbrev Ends : List ℕ → Type 0
+Ends c = length c ≡ 3 + typeCount 0 c + numberCount 0 c + 6 * addressCount 0 c
 
-link-content : (b : List ℕ) → linkOk b ≡ true → LinkContent (drop 4 b) (typeCount b) (numberCount b) (addressCount b)
-link-content b e =
-    let n = typeCount b in
-    let m = numberCount b in
+link-ends : (b : List ℕ) → linkOk b ≡ true → Ends (drop 4 b)
+link-ends b e =
+    let n = typeCount 4 b in
+    let m = numberCount 4 b in
     let place : (i j : ℕ) → 4 + i ≡ j → getD (drop 4 b) i 0 ≡ getD b j 0 = λ i j q. getD-drop 4 b i 0 ∙ ap (λ (k : ℕ). getD b k 0) q in
-    record {
-      typed = place 0 4 refl;
-      numbered = place (1 + n) (5 + n) (omega arith);
-      counted = place (2 + n + m) (6 + n + m) (omega arith);
-      ends = length-drop 4 b ∙ omega (arith, link-has b e .ends);
-    }
+    rw (place 0 4 refl, place (1 + n) (5 + n) (omega arith), place (2 + n + m) (6 + n + m) (omega arith))
+    (length-drop 4 b ∙ omega (arith, link-has b e .ends))
 
--- every content of the topic is one of a well formed link information
-abbrev AllLinked : List (List ℕ) → Type 0
-AllLinked [] = Unit {0}
-AllLinked (c ∷ cs) = ((n : ℕ) × ((m : ℕ) × ((k : ℕ) × LinkContent c n m k))) × AllLinked cs
+-- and so does every content of the topic
+abbrev AllEnd : List (List ℕ) → Type 0
+AllEnd [] = Unit {0}
+AllEnd (c ∷ cs) = Ends c × AllEnd cs
 
-field-linked : (b : List ℕ) (x : Field) (more : List (List ℕ)) → Fits b x → AllLinked more → AllLinked (onField x link b more)
-field-linked b Skipped more h i = i
-field-linked b Malformed more h i = i
-field-linked b (Says topic skip) more h i = go (eqb link topic) refl
+field-ends : (b : List ℕ) (x : Field) (more : List (List ℕ)) → Fits b x → AllEnd more → AllEnd (onField x link b more)
+field-ends b Skipped more h i = i
+field-ends b Malformed more h i = i
+field-ends b (Says topic skip) more h i = go (eqb link topic) refl
   where
-    go : (t : Bool) → eqb link topic ≡ t → AllLinked (pick t (drop skip b ∷ more) more)
+    go : (t : Bool) → eqb link topic ≡ t → AllEnd (pick t (drop skip b ∷ more) more)
     go true e =
         let w = h .linked (sym (eqb-true link topic e)) in
-        let c : LinkContent (drop skip b) (typeCount b) (numberCount b) (addressCount b) = rw (w .1) (link-content b (w .0)) in
-        ((typeCount b, (numberCount b, (addressCount b, c))), i)
+        (rw (w .1) (link-ends b (w .0)), i)
     go false e = i
 
-pub contents-linked : (ts : List Tlv) → AllLinked (contents link ts)
+contents-end : (ts : List Tlv) → AllEnd (contents link ts)
 unfolding contents
-contents-linked [] = tt
-contents-linked (t ∷ ts) =
-    field-linked (t .body) (fieldOf (t .kind) (t .body)) (contents link ts) (field-fits (t .body) (t .kind)) (contents-linked ts)
+contents-end [] = tt
+contents-end (t ∷ ts) =
+    field-ends (t .body) (fieldOf (t .kind) (t .body)) (contents link ts) (field-fits (t .body) (t .kind)) (contents-end ts)
 
 -- a topic that was met has a mark that was set
 met : {s : List ℕ} {m : Mark} {c : List ℕ} {cs : List (List ℕ)} → Means s m (c ∷ cs) → eqb (m .times) 0 ≡ false
@@ -91,66 +83,52 @@ met {m = m} {cs = cs} i = go (length cs) (i .count)
     go zero q = rw q
     go (suc n) q = rw q
 
--- the link information at a mark, by the counts in its content
-module _ (s : List ℕ) (m : Mark) (n k j : ℕ) (t : eqb (m .times) 0 ≡ false) (h : m .start + m .len ≤ length s) (c : LinkContent (textAt s m) n k j) where
-  link-size : m .len ≡ 3 + n + k + 6 * j
-  link-size = sym (length-take-le (m .len) (drop (m .start) s) (omega (arith, length-drop (m .start) s))) ∙ c .ends
-
-  pub link-table : linkAt s m ≡ tableAt (m .start) n k j
-  unfolding linkAt
-  link-table =
-      let a = m .start in
-      let size = link-size in
-      let e0 : getD s a 0 ≡ n = sym (part-at s a (m .len) 0 (omega arith) (omega arith)) ∙ c .typed in
-      let e1 : getD s (a + 1 + n) 0 ≡ k = sym (part-at s a (m .len) (1 + n) (omega arith) (omega arith)) ∙ c .numbered in
-      let e2 : getD s (a + 2 + n + k) 0 ≡ j = sym (part-at s a (m .len) (2 + n + k) (omega arith) (omega arith)) ∙ c .counted in
-      rw (t, e0, e1, e2)
-
-  table-means : linkMeant s (linkAt s m) ≡ some (linkIn (textAt s m) (getD (textAt s m) 0 0) (getD (textAt s m) (1 + getD (textAt s m) 0 0) 0))
-  table-means =
-      let a = m .start in
-      let size = link-size in
-      rw (
-        link-table,
-        c .typed,
-        c .numbered,
-        part-of-part s a (m .len) 1 n {j = a + 1} (omega arith) refl,
-        part-of-part s a (m .len) (2 + n) k {j = a + 2 + n} (omega arith) (omega arith),
-        rest-of-part s a (m .len) (3 + n + k) (6 * j) {j = a + 3 + n + k} size (omega arith),
-      )
-
-link-means : (s : List ℕ) (m : Mark) (cs : List (List ℕ)) → AllLinked cs → Means s m cs → linkMeant s (linkAt s m) ≡ firstLink cs
-unfolding linkAt
-link-means s m [] l i = rw (eq-eqb (m .times) 0 (i .count))
-link-means s m (c ∷ cs) l i =
-    let w = l .0 in
-    let here : LinkContent (textAt s m) (w .0) (w .1 .0) (w .1 .1 .0) = rw (i .text) (w .1 .1 .1) in
-    table-means s m (w .0) (w .1 .0) (w .1 .1 .0) (met i) (i .inside) here
-    ∙ ap (λ (x : List ℕ). some (linkIn x (getD x 0 0) (getD x (1 + getD x 0 0) 0))) (i .text)
-
--- two texts with the same contents have the same link information
-pub link-same : (s u : List ℕ) (m : Mark) (cs : List (List ℕ)) → AllLinked cs → Means s m cs → Means u m cs → linkAt u m ≡ linkAt s m
-unfolding linkAt
-link-same s u m [] l i k = rw (eq-eqb (m .times) 0 (i .count))
-link-same s u m (c ∷ cs) l i k =
-    let w = l .0 in
-    let table : (v : List ℕ) → Means v m (c ∷ cs) → linkAt v m ≡ tableAt (m .start) (w .0) (w .1 .0) (w .1 .1 .0) =
-    λ v x. link-table v m (w .0) (w .1 .0) (w .1 .1 .0) (met x) (x .inside) (rw (x .text) (w .1 .1 .1)) in
-    table u k ∙ sym (table s i)
-
 -- the parts of a link information lie in a text of n octets
 abbrev pub LinkFits : ℕ → Link → Type 0
 LinkFits n link-is.Absent = Unit {0}
 LinkFits n (link-is.Table i p a) = (i .start + i .len ≤ n) × ((p .start + p .len ≤ n) × (a .start + a .len ≤ n))
 
-link-fits : (s : List ℕ) (m : Mark) (cs : List (List ℕ)) → AllLinked cs → Means s m cs → LinkFits (length s) (linkAt s m)
+-- the link information at a mark that was set, by n, m and k of its content
+module _ (s : List ℕ) (mark : Mark) (t : eqb (mark .times) 0 ≡ false) (h : mark .start + mark .len ≤ length s) (e : Ends (textAt s mark)) where
+  abbrev n : ℕ
+  n = typeCount 0 (textAt s mark)
+
+  abbrev m : ℕ
+  m = numberCount 0 (textAt s mark)
+
+  abbrev k : ℕ
+  k = addressCount 0 (textAt s mark)
+
+  link-size : mark .len ≡ 3 + n + m + 6 * k
+  link-size = sym (length-take-le (mark .len) (drop (mark .start) s) (omega (arith, length-drop (mark .start) s))) ∙ e
+
+  table-means : linkMeant s (linkAt s mark) ≡ some (linkIn (textAt s mark) n m)
+  unfolding linkAt
+  table-means =
+      let a = mark .start in
+      let size = link-size in
+      rw (
+        t,
+        part-of-part s a (mark .len) 1 n {j = a + 1} (omega arith) refl,
+        part-of-part s a (mark .len) (2 + n) m {j = a + 2 + n} (omega arith) (omega arith),
+        rest-of-part s a (mark .len) (3 + n + m) (6 * k) {j = a + 3 + n + m} size (omega arith),
+      )
+
+  table-fits : LinkFits (length s) (linkAt s mark)
+  unfolding linkAt
+  table-fits =
+      let size = link-size in
+      rw t (omega arith, (omega arith, omega arith))
+
+link-means : (s : List ℕ) (m : Mark) (cs : List (List ℕ)) → AllEnd cs → Means s m cs → linkMeant s (linkAt s m) ≡ firstLink cs
+unfolding linkAt
+link-means s m [] l i = rw (eq-eqb (m .times) 0 (i .count))
+link-means s m (c ∷ cs) l i = table-means s m (met i) (i .inside) (rw (i .text) (l .0)) ∙ ap (λ (x : List ℕ). firstLink (x ∷ cs)) (i .text)
+
+link-fits : (s : List ℕ) (m : Mark) (cs : List (List ℕ)) → AllEnd cs → Means s m cs → LinkFits (length s) (linkAt s m)
 unfolding linkAt
 link-fits s m [] l i = rw (eq-eqb (m .times) 0 (i .count)) tt
-link-fits s m (c ∷ cs) l i =
-    let w = l .0 in
-    let here : LinkContent (textAt s m) (w .0) (w .1 .0) (w .1 .1 .0) = rw (i .text) (w .1 .1 .1) in
-    let size = link-size s m (w .0) (w .1 .0) (w .1 .1 .0) (met i) (i .inside) here in
-    rw (link-table s m (w .0) (w .1 .0) (w .1 .1 .0) (met i) (i .inside) here) (omega (arith, i .inside), (omega (arith, i .inside), omega (arith, i .inside)))
+link-fits s m (c ∷ cs) l i = table-fits s m (met i) (i .inside) (rw (i .text) (l .0))
 
 list-means : (s : List ℕ) (m : Mark) (cs : List (List ℕ)) → Means s m cs → listMeant s (listAt m) ≡ firstList cs
 unfolding listAt
@@ -167,7 +145,7 @@ marks-inside s topic h = topic-means s topic (restOf s .tlvs) h (rest-in s) .ins
 
 pub reading-link-fits : (s : List ℕ) → LinkFits (length s) (linkAt s (markOf link (foundIn s)))
 reading-link-fits s =
-    link-fits s (markOf link (foundIn s)) (contents link (tlvsIn s)) (contents-linked (tlvsIn s)) (topic-means s link (restOf s .tlvs) (omega arith) (rest-in s))
+    link-fits s (markOf link (foundIn s)) (contents link (tlvsIn s)) (contents-end (tlvsIn s)) (topic-means s link (restOf s .tlvs) (omega arith) (rest-in s))
 
 said-means : (s : List ℕ) → saidBy s (descriptionAt s (portLength s) (foundIn s)) ≡ saidIn s (tlvsIn s)
 said-means s =
@@ -178,7 +156,7 @@ said-means s =
       m manufacturer (omega arith) .text,
       m modelName (omega arith) .text,
       m modelNumber (omega arith) .text,
-      link-means s (markOf link (foundIn s)) (contents link (tlvsIn s)) (contents-linked (tlvsIn s)) (m link (omega arith)),
+      link-means s (markOf link (foundIn s)) (contents link (tlvsIn s)) (contents-end (tlvsIn s)) (m link (omega arith)),
       list-means s (markOf addressList (foundIn s)) (contents addressList (tlvsIn s)) (m addressList (omega arith)),
     )
 

@@ -1,7 +1,7 @@
 -- Octets behind the End TLV never matter (L8): a valid LLDPDU followed by anything else reads the same.
 -- Each answer of the reader in turn.
 use Prim.Native.Nat.{ℕ}
-use mathlib.Core.Path.{_≡_, ap}
+use mathlib.Core.Path.{_≡_, sym, ap, _∙_}
 use mathlib.Core.List.{List, _++_, map}
 use native.Mathlib.Omega.{arith}
 use lib.ListN.{take}
@@ -10,10 +10,10 @@ use Rattle.walk.specs.Walk.{Walked}
 use Rattle.lldpdu.specs.Extent.{restOf, extentOf}
 use Rattle.found.specs.Found.{nothing, markOf, gather}
 use Rattle.reading.specs.Reading.{linkAt, foundIn, readingOf}
-use Rattle.found.specs.Contents.{contents, tlvsIn}
+use Rattle.found.specs.Contents.{tlvsIn}
 use Rattle.reading.specs.Meaning.{answerOf}
-use Rattle.found.proofs.MarkLaws.{AllIn, topic-means}
-use Rattle.reading.proofs.MeaningLaws.{rest-in, contents-linked, link-same}
+use Rattle.found.proofs.MarkLaws.{AllIn, textAt, topic-means}
+use Rattle.reading.proofs.MeaningLaws.{rest-in}
 use Rattle.lldpdu.proofs.Stable.{front, extent-stable, chassis-same, subtype-same, port-same, seconds-same}
 use Rattle.walk.specs.declared.Extent.the-variants.{Octets}
 
@@ -31,13 +31,15 @@ module _ (s t : List ℕ) (e : ℕ) (v : extentOf s ≡ Octets e) where
   unfolding answerOf
   answer-stable = rw (extent-stable s t e v, v, tlvs-same, chassis-same s t e v, subtype-same s t e v, port-same s t e v, seconds-same s t e v)
 
+  -- the content of the first link information is the same, so what is read from it is
   link-kept : linkAt u (markOf link (foundIn s)) ≡ linkAt s (markOf link (foundIn s))
+  unfolding linkAt
   link-kept =
       let ps = restOf s .tlvs in
       let here : AllIn u ps = rw (ap (λ (w : Walked). w .tlvs) (front s t e v .rest)) at (rest-in u) in
-      link-same s u (markOf link (foundIn s)) (contents link (tlvsIn s)) (contents-linked (tlvsIn s))
-      (topic-means s link ps (omega arith) (rest-in s))
-      (topic-means u link ps (omega arith) here)
+      let same : textAt u (markOf link (foundIn s)) ≡ textAt s (markOf link (foundIn s)) =
+      topic-means u link ps (omega arith) here .text ∙ sym (topic-means s link ps (omega arith) (rest-in s) .text) in
+      rw same
 
   pub reading-stable : readingOf u ≡ readingOf s
   unfolding readingOf

@@ -1,16 +1,17 @@
 -- What an LLDPDU says, by the rules alone and in lists of octets: this is what must be believed of the reader.
 -- No place, no mark and no code type stands in it; what the code answers means this, and that is part of its contract.
-use Prim.Native.Nat.{ℕ, _+_, _-_}
+use Prim.Native.Nat.{ℕ, _-_}
 use mathlib.Core.Path.{_≡_}
 use mathlib.Core.List.{List, [], _∷_}
 use mathlib.Core.Bool.{Bool, false}
 use mathlib.Core.Option.{Option, none, some}
 use lib.ListN.{take, drop, getD}
 use Rattle.octets.specs.Address.{sixAt}
+use Rattle.links.specs.Link.{typeCount, numberCount}
 use Rattle.found.specs.Contents.{contents, htipOf, first, LinkInfo, linkIn, tlvsIn}
 use Rattle.fields.specs.Field.{portDescription, category, manufacturer, modelName, modelNumber, link, addressList}
 use Rattle.walk.specs.Walk.{Tlv}
-use Rattle.lldpdu.specs.Extent.{refusalIn, octetsIn, portLength, extentOf}
+use Rattle.lldpdu.specs.Extent.{refusalOfExtent, octetsIn, portLength, extentOf}
 use Rattle.lldpdu.specs.Outline.{noAddress, secondsIn}
 use Rattle.text.specs.Part.{textOf}
 use Rattle.reading.specs.Reading.{readingOf}
@@ -41,7 +42,7 @@ pub record Said : Type 0 where
 -- an absent link information and an absent list differ from empty ones (A3)
 abbrev pub firstLink : List (List ℕ) → Option LinkInfo
 firstLink [] = none
-firstLink (c ∷ l) = some (linkIn c (getD c 0 0) (getD c (1 + getD c 0 0) 0))
+firstLink (c ∷ l) = some (linkIn c (typeCount 0 c) (numberCount 0 c))
 
 abbrev pub firstList : List (List ℕ) → Option (List ℕ)
 firstList [] = none
@@ -66,14 +67,14 @@ saidIn s ts =
 
 -- The answer (A1): a refusal number, 0 where there is none, and what stands beside it
 
-pub record Answer : Type 0 where
+pub record ReaderAnswer : Type 0 where
   pub refusal : ℕ
   pub octets : ℕ
   pub htip : Bool
   pub said : Said
 
-abbrev pub refused : ℕ → Answer
-refused n =
+abbrev pub refusedAnswer : ℕ → ReaderAnswer
+refusedAnswer n =
     record {
       refusal = n;
       octets = 0;
@@ -94,11 +95,11 @@ refused n =
           };
     }
 
-abbrev pub answerAt : Extent → List ℕ → Answer
-answerAt (Refused n) s = refused n
+abbrev pub answerAt : Extent → List ℕ → ReaderAnswer
+answerAt (Refused n) s = refusedAnswer n
 answerAt (Octets e) s = record { refusal = 0; octets = e; htip = htipOf (tlvsIn s); said = saidIn s (tlvsIn s) }
 
-unfoldable pub answerOf : List ℕ → Answer
+unfoldable pub answerOf : List ℕ → ReaderAnswer
 answerOf s = answerAt (extentOf s) s
 
 -- What the code's answer means over the LLDPDU s that was read
@@ -127,8 +128,8 @@ saidBy s d =
       list = listMeant s (d .list);
     }
 
-abbrev pub meant : List ℕ → Reading → Answer
-meant s r = record { refusal = refusalIn (r .extent); octets = octetsIn (r .extent); htip = r .htip; said = saidBy s (r .description) }
+abbrev pub meant : List ℕ → Reading → ReaderAnswer
+meant s r = record { refusal = refusalOfExtent (r .extent); octets = octetsIn (r .extent); htip = r .htip; said = saidBy s (r .description) }
 
 -- The contract of the reader: the answer is this one and no other, and it means what the rules say
 pub record Reads (s : List ℕ) (r : Reading) : Type 0 where

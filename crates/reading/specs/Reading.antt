@@ -8,10 +8,11 @@ use lib.Dec.{eqb}
 use Rattle.tally.specs.Tests.{pick}
 use Rattle.octets.specs.Numbers.{pairOf}
 use Rattle.octets.specs.Address.{sixAt}
+use Rattle.links.specs.Link.{typeCount, numberCount, addressCount}
 use Rattle.fields.specs.Field.{portDescription, category, manufacturer, modelName, modelNumber, link, addressList}
 use Rattle.lldpdu.specs.Extent.{portLength, restOf, extentOf}
 use Rattle.lldpdu.specs.Outline.{noAddress}
-use Rattle.text.specs.Part.{part}
+use Rattle.text.specs.Part.{part, textOf}
 use Rattle.found.specs.Found.{markOf, nothing, gather, htipIn}
 use Rattle.walk.specs.declared.Extent.{Extent}
 use Rattle.walk.specs.declared.Extent.the-variants.{Refused, Octets}
@@ -33,14 +34,13 @@ partAt m = part (m .start) (m .len)
 abbrev pub tableAt : ℕ → ℕ → ℕ → ℕ → Link
 tableAt at n m k = link-is.Table (part (at + 1) n) (part (at + 2 + n) m) (part (at + 3 + n + m) (6 * k))
 
-abbrev pub portCountAt : List ℕ → ℕ → ℕ
-portCountAt s at = getD s (at + 1 + getD s at 0) 0
+-- with the counts that stand in its content c
+abbrev pub tableIn : List ℕ → ℕ → Link
+tableIn c at = tableAt at (typeCount 0 c) (numberCount 0 c) (addressCount 0 c)
 
+-- the content is what the mark delimits; nothing else is read (L2)
 unfoldable pub linkAt : List ℕ → Mark → Link
-linkAt s m =
-    pick (eqb (m .times) 0) link-is.Absent
-    (tableAt (m .start) (getD s (m .start) 0) (portCountAt s (m .start))
-    (getD s (m .start + 2 + getD s (m .start) 0 + portCountAt s (m .start)) 0))
+linkAt s m = pick (eqb (m .times) 0) link-is.Absent (tableIn (textOf s (partAt m)) (m .start))
 
 unfoldable pub listAt : Mark → AddressList
 listAt m = pick (eqb (m .times) 0) list-is.Absent (list-is.Listed (partAt m))

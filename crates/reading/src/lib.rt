@@ -1,9 +1,9 @@
 // The whole reading of an LLDPDU: its extent, every field that is read, and the HTIP verdict.
 // The description holds numbers and parts of the LLDPDU, so that what was read can be written as it stands.
 ghost use mathlib.Core.Path.{_≡_};
-ghost use Prim.Native.Nat.{_≤_};
+ghost use Prim.Native.Nat.{_^_, _<_, _≤_};
 ghost use lib.ListN.{length};
-ghost use Rattle.reading.specs.Reading.{partAt, linkAt, listAt, linkParts, Ready, descriptionAt, refusedReading};
+ghost use Rattle.reading.specs.Reading.{partAt, tableIn, linkAt, listAt, linkParts, Ready, descriptionAt, refusedReading};
 ghost use Rattle.reading.specs.Meaning.{Reads};
 use found::Found;
 use found::Mark;
@@ -16,6 +16,7 @@ use octets::octet;
 use octets::pair;
 use octets::six;
 use text::Part;
+use text::text_of;
 
 // A link information: the octets of its interface type, of its port number and of all its addresses (T7).
 pub enum Link {
@@ -99,6 +100,31 @@ fn part_at(m: Mark) -> Part
     }
 }
 
+// Link information from its content, which is all that is read; in the LLDPDU it lies at start (L2, T7).
+fn table_in(part: &[u8], start: usize) -> Link
+    requires { ⌜ start < 2 ^ 63 ⌝ }
+    ensures { λ r. ⌜ r ≡ tableIn (now (part .entry)) start ⌝ }
+{
+    let n = octet(part, 0) as usize;
+    let m = octet(part, 1 + n) as usize;
+    let k = octet(part, 2 + n + m) as usize;
+    Link::Table {
+        interface: Part {
+            start: start + 1,
+            len: n,
+        },
+        port: Part {
+            start: start + 2 + n,
+            len: m,
+        },
+        addresses: Part {
+            start: start + 3 + n + m,
+            len: 6 * k,
+        },
+    }
+}
+
+// Absent, or the first link information, read from the part that its mark delimits (A2, A3).
 fn link_at(s: &[u8], m: Mark) -> Link
     requires { ⌜ m .start ≤ length (now s) ⌝ }
     ensures { λ r. ⌜ r ≡ linkAt (now (s .entry)) m ⌝ }
@@ -107,24 +133,7 @@ fn link_at(s: &[u8], m: Mark) -> Link
     if linked == 0 {
         return Link::Absent;
     }
-    let at = m.start;
-    let n = octet(s, at) as usize;
-    let k = octet(s, at + 1 + n) as usize;
-    let addresses = octet(s, at + 2 + n + k) as usize;
-    Link::Table {
-        interface: Part {
-            start: at + 1,
-            len: n,
-        },
-        port: Part {
-            start: at + 2 + n,
-            len: k,
-        },
-        addresses: Part {
-            start: at + 3 + n + k,
-            len: 6 * addresses,
-        },
-    }
+    table_in(text_of(s, part_at(m)), m.start)
 }
 
 fn list_at(m: Mark) -> AddressList

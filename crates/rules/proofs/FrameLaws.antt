@@ -1,5 +1,5 @@
 -- What an event does to a fit table: it stays fit, and a frame changes what is found for its own identity alone.
--- `after` says what that identity then has, by the answer; `tick-keeps` and its like make the laws of `each` ready for use.
+-- `after` says what that identity then has, by the answer; `tick-keeps` and its like make the laws of `eachRecord` ready for use.
 use Prim.Native.Nat.{ℕ, zero, suc, _-_, _≤_, _<_}
 use mathlib.Core.Path.{_≡_, refl, ap, _∙_}
 use mathlib.Core.List.{[], _∷_}
@@ -12,18 +12,18 @@ use lib.ListN.{replicate, length-replicate}
 use Rattle.tally.specs.Tests.{pick}
 use Rattle.tally.proofs.CountsLaws.{sum-same, sum-zero}
 use Rattle.rules.specs.Identity.{Ident, same}
-use Rattle.rules.specs.Events.{Said, Heard, unread, says, Event, frame, passed, lost, whose}
+use Rattle.rules.specs.Events.{Announcement, Heard, unread, says, Event, frame, passed, lost, whose}
 use Rattle.rules.specs.Shares.{sure, placesFor, beyond, portIs, room}
 use Rattle.rules.specs.declared.Room.{Room}
 use Rattle.rules.specs.declared.Room.the-variants.{Enough, Full, Taken}
 use Rattle.rules.specs.Answers.{answerTo}
 use Rattle.rules.specs.declared.Reply.{Reply}
 use Rattle.rules.specs.declared.Reply.the-variants.{Recorded, Refreshed, Gone, UnknownGoodbye, Refused}
-use Rattle.rules.specs.Model.{Rec, Places, isSome, lookup, tally, holds, at, each, tick, unplug, swap, recorded, act, reply, onFrame, step, run}
-use Rattle.rules.specs.Fit.{InAll, Absent, Once, Ports, Fit}
+use Rattle.rules.specs.Model.{Rec, Places, isSome, lookup, tally, holdsIn, onRecord, eachRecord, tick, unplug, swap, recorded, act, reply, afterFrame, step, run}
+use Rattle.rules.specs.Fit.{InAll, Absent, Once, Ports, FitPlaces}
 use Rattle.rules.proofs.IdentityLaws.{same-true, same-self, same-cast, differ-sym}
-use Rattle.rules.proofs.EachLaws.{Of, Keeps, lookup-absent, lookup-of, lookup-each, lookup-put}
-use Rattle.rules.proofs.SharesLaws.{Fits, room-fits, room-free, fit-each, fit-put}
+use Rattle.rules.proofs.EachLaws.{Of, Keeps, lookup-absent, lookup-of, lookup-each, lookup-enter}
+use Rattle.rules.proofs.SharesLaws.{Fits, room-fits, room-free, fit-each, fit-enter}
 
 -- The three changes of a record by itself
 
@@ -48,18 +48,18 @@ swap-keeps w x o r = go (same w (r .who)) refl x o
     go true e (some y) z = z ∙ same-true w (r .who) e
     go false e y z = refl
 
-swap-hit : (w : Ident) (x y : Option Rec) → Of w y → isSome y ≡ true → at (swap w x) y ≡ x
+swap-hit : (w : Ident) (x y : Option Rec) → Of w y → isSome y ≡ true → onRecord (swap w x) y ≡ x
 unfolding swap
 swap-hit w x none o e = cc
 swap-hit w x (some r) o e = rw (o, same-self w)
 
-swap-miss : (w v : Ident) (x y : Option Rec) → Of w y → same v w ≡ false → at (swap v x) y ≡ y
+swap-miss : (w v : Ident) (x y : Option Rec) → Of w y → same v w ≡ false → onRecord (swap v x) y ≡ y
 unfolding swap
 swap-miss w v x none o e = refl
 swap-miss w v x (some r) o e = rw (same-cast (r .who) w v o, e)
 
 -- a port that there is not has no record to lose
-pub unplug-none : (n q : ℕ) (t : Places) → Ports n t → n ≤ q → each (unplug q) t ≡ t
+pub unplug-none : (n q : ℕ) (t : Places) → Ports n t → n ≤ q → eachRecord (unplug q) t ≡ t
 unfolding unplug
 unplug-none n q [] h l = refl
 unplug-none n q (none ∷ t) h l = ap (λ (u : Places). none ∷ u) (unplug-none n q t (h .1) l)
@@ -80,17 +80,17 @@ after Gone r old = none
 after UnknownGoodbye r old = old
 after (Refused k) r old = old
 
-module _ (n : ℕ) (t : Places) (f : Fit n t) (p : ℕ) (a : Said) where
+module _ (n : ℕ) (t : Places) (f : FitPlaces n t) (p : ℕ) (a : Announcement) where
   abbrev v : Ident
   v = whose p a
 
   abbrev rec : Rec
   rec = recorded p a
 
-  swapped : (y : Option Rec) → Of v y → isSome (lookup v t) ≡ true → (w : Ident) → lookup w (each (swap v y) t) ≡ pick (same w v) y (lookup w t)
+  swapped : (y : Option Rec) → Of v y → isSome (lookup v t) ≡ true → (w : Ident) → lookup w (eachRecord (swap v y) t) ≡ pick (same w v) y (lookup w t)
   swapped y o k w = lookup-each (swap v y) (swap-keeps v y o) w t (f .once) ∙ go (same w v) refl
     where
-      go : (b : Bool) → same w v ≡ b → at (swap v y) (lookup w t) ≡ pick b y (lookup w t)
+      go : (b : Bool) → same w v ≡ b → onRecord (swap v y) (lookup w t) ≡ pick b y (lookup w t)
       go true e = rw (same-true w v e) (swap-hit v y (lookup v t) (lookup-of v t) k)
       go false e = swap-miss w v y (lookup w t) (lookup-of w t) (differ-sym w v e)
 
@@ -103,16 +103,16 @@ module _ (n : ℕ) (t : Places) (f : Fit n t) (p : ℕ) (a : Said) where
 
   -- the answer x leads from t to a fit table, and changes what v has alone
   abbrev Right : Reply → Type 0
-  Right x = Fit n (act x rec t) × ((w : Ident) → lookup w (act x rec t) ≡ pick (same w v) (after x rec (lookup v t)) (lookup w t))
+  Right x = FitPlaces n (act x rec t) × ((w : Ident) → lookup w (act x rec t) ≡ pick (same w v) (after x rec (lookup v t)) (lookup w t))
 
   acts : p < n → (g k : Bool) → isSome (lookup v t) ≡ k → (rm : Room) → room n (λ g. tally g t) v ≡ rm → Right (answerTo g k rm)
   acts l true true d rm m = (fit-each (swap v none) (swap-keeps v none tt) n t f, swapped none tt d)
   acts l true false d rm m = (f, unmoved)
   acts l false true d rm m = (fit-each (swap v (some rec)) (swap-keeps v (some rec) refl) n t f, swapped (some rec) refl d)
   acts l false false d Enough m =
-      let k : Fits n (holds t) p = room-fits n (λ g. tally g t) v m in
+      let k : Fits n (holdsIn t) p = room-fits n (λ g. tally g t) v m in
       let o : Absent v t = lookup-absent v t (is-none (lookup v t) d) in
-      (fit-put rec n t f l k o, λ w. lookup-put rec w t (room-free n t p f l k) o)
+      (fit-enter rec n t f l k o, λ w. lookup-enter rec w t (room-free n t p f l k) o)
   acts l false false d Full m = (f, unmoved)
   acts l false false d Taken m = (f, unmoved)
 
@@ -124,21 +124,21 @@ module _ (n : ℕ) (t : Places) (f : Fit n t) (p : ℕ) (a : Said) where
       go true e = acts (ltb-true p n e) (eqb (a .seconds) 0) (isSome (lookup v t)) refl (room n (λ g. tally g t) v) refl
       go false e = (f, unmoved)
 
-module _ (n : ℕ) (t : Places) (f : Fit n t) where
-  pub frame-fit : (p : ℕ) (x : Heard) → Fit n (onFrame n p x t)
-  unfolding onFrame
+module _ (n : ℕ) (t : Places) (f : FitPlaces n t) where
+  pub frame-fit : (p : ℕ) (x : Heard) → FitPlaces n (afterFrame n p x t)
+  unfolding afterFrame
   frame-fit p (unread k) = f
   frame-fit p (says a) = frames n t f p a .0
 
   -- a frame changes what is found for its own identity, by its answer, and nothing else
-  pub frame-lookup : (p : ℕ) (a : Said) (w : Ident)
-      → lookup w (onFrame n p (says a) t)
+  pub frame-lookup : (p : ℕ) (a : Announcement) (w : Ident)
+      → lookup w (afterFrame n p (says a) t)
       ≡ pick (same w (whose p a)) (after (reply n p (says a) t) (recorded p a) (lookup (whose p a) t)) (lookup w t)
-  unfolding onFrame
+  unfolding afterFrame
   frame-lookup p a w = frames n t f p a .1 w
 
   -- every event keeps a fit table fit
-  pub step-fit : (e : Event) → Fit n (step n e t)
+  pub step-fit : (e : Event) → FitPlaces n (step n e t)
   step-fit (frame p x) = frame-fit p x
   step-fit (passed s) = fit-each (tick s) (tick-keeps s) n t f
   step-fit (lost p) = fit-each (unplug p) (unplug-keeps p) n t f
@@ -158,16 +158,16 @@ none-tally g zero = refl
 none-tally g (suc m) = omega (arith, none-tally g m)
 
 -- a table without records is fit
-pub start-fit : (n : ℕ) → Fit n (run n [])
+pub start-fit : (n : ℕ) → FitPlaces n (run n [])
 unfolding beyond
 start-fit n =
-    let held : (q : ℕ) → holds (run n []) q ≡ 0 = λ q. none-tally (portIs q) (placesFor n) in
+    let held : (q : ℕ) → holdsIn (run n []) q ≡ 0 = λ q. none-tally (portIs q) (placesFor n) in
     record {
       size = length-replicate (placesFor n) none;
       once = none-once (placesFor n);
       ports = none-in (λ v. v .port < n) (placesFor n);
       six = λ q. omega (arith, held q);
-      common = omega (arith, sum-same (λ q. holds (run n []) q - sure) (λ q. 0) n (λ q l. omega (arith, held q)), sum-zero n);
+      common = omega (arith, sum-same (λ q. holdsIn (run n []) q - sure) (λ q. 0) n (λ q l. omega (arith, held q)), sum-zero n);
     }
 
 -- A frame by what is known of it: the form in which a table that finds a place by a loop has it
@@ -179,8 +179,8 @@ module _ (n : ℕ) (t : Places) (p : ℕ) where
   no-reply (unread k) h = rw (le-ltb p n h)
   no-reply (says a) h = rw (le-ltb p n h)
 
-  pub no-frame : (x : Heard) → n ≤ p → onFrame n p x t ≡ t
-  unfolding onFrame
+  pub no-frame : (x : Heard) → n ≤ p → afterFrame n p x t ≡ t
+  unfolding afterFrame
   no-frame (unread k) h = refl
   no-frame (says a) h = ap (λ (y : Reply). act y (recorded p a) t) (no-reply (says a) h)
 
@@ -189,16 +189,16 @@ module _ (n : ℕ) (t : Places) (p : ℕ) where
   unfolding reply
   unread-reply k h = rw (lt-ltb p n h)
 
-  pub unread-frame : (k : ℕ) → onFrame n p (unread k) t ≡ t
-  unfolding onFrame
+  pub unread-frame : (k : ℕ) → afterFrame n p (unread k) t ≡ t
+  unfolding afterFrame
   unread-frame k = refl
 
   -- known or not, with the room that there is
-  module _ (a : Said) (l : p < n) (b : Bool) (rm : Room) (e : isSome (lookup (whose p a) t) ≡ b) (r : room n (λ g. tally g t) (whose p a) ≡ rm) where
+  module _ (a : Announcement) (l : p < n) (b : Bool) (rm : Room) (e : isSome (lookup (whose p a) t) ≡ b) (r : room n (λ g. tally g t) (whose p a) ≡ rm) where
     pub reply-is : reply n p (says a) t ≡ answerTo (eqb (a .seconds) 0) b rm
     unfolding reply
     reply-is = rw (lt-ltb p n l, e, r)
 
-    pub frame-is : onFrame n p (says a) t ≡ act (answerTo (eqb (a .seconds) 0) b rm) (recorded p a) t
-    unfolding onFrame
+    pub frame-is : afterFrame n p (says a) t ≡ act (answerTo (eqb (a .seconds) 0) b rm) (recorded p a) t
+    unfolding afterFrame
     frame-is = ap (λ (y : Reply). act y (recorded p a) t) reply-is

@@ -9,7 +9,7 @@ use native.Mathlib.Nat.{le-of-suc-le-suc}
 use native.Mathlib.Omega.{arith}
 use lib.ListN.{length, getD, set}
 use Rattle.rules.specs.Identity.{Ident, same}
-use Rattle.rules.specs.Model.{Rec, Places, isSome, lookup, put, each, swap}
+use Rattle.rules.specs.Model.{Rec, Places, isSome, lookup, enter, eachRecord, swap}
 use Rattle.rules.specs.Fit.{InPlace, InAll, Absent, Once}
 use Rattle.rules.proofs.IdentityLaws.{same-self, differ-sym, clash}
 
@@ -23,15 +23,15 @@ in-at P (x ∷ t) zero y a e = in-some P x y (a .0) e
 in-at P (x ∷ t) (suc i) y a e = in-at P t i y (a .1) e
 
 -- the lowest free place i
-pub put-set : (r : Rec) (t : Places) (i : ℕ) → i < length t → getD t i none ≡ none → ((j : ℕ) → j < i → isSome (getD t j none) ≡ true)
-    → put r t ≡ set t i (some r)
-put-set r [] i l e a = refl
-put-set r (none ∷ t) zero l e a = refl
-put-set r (none ∷ t) (suc i) l e a = absurd (clash false (a 0 (omega arith)) refl)
-put-set r (some x ∷ t) zero l e a = absurd (Option·none-ne-some x (sym e))
-put-set r (some x ∷ t) (suc i) l e a = ap (λ (u : Places). some x ∷ u) (put-set r t i (le-of-suc-le-suc l) e (λ j k. a (suc j) (omega arith)))
+pub enter-set : (r : Rec) (t : Places) (i : ℕ) → i < length t → getD t i none ≡ none → ((j : ℕ) → j < i → isSome (getD t j none) ≡ true)
+    → enter r t ≡ set t i (some r)
+enter-set r [] i l e a = refl
+enter-set r (none ∷ t) zero l e a = refl
+enter-set r (none ∷ t) (suc i) l e a = absurd (clash false (a 0 (omega arith)) refl)
+enter-set r (some x ∷ t) zero l e a = absurd (Option·none-ne-some x (sym e))
+enter-set r (some x ∷ t) (suc i) l e a = ap (λ (u : Places). some x ∷ u) (enter-set r t i (le-of-suc-le-suc l) e (λ j k. a (suc j) (omega arith)))
 
-swap-absent : (w : Ident) (x : Option Rec) (t : Places) → Absent w t → each (swap w x) t ≡ t
+swap-absent : (w : Ident) (x : Option Rec) (t : Places) → Absent w t → eachRecord (swap w x) t ≡ t
 unfolding swap
 swap-absent w x [] a = refl
 swap-absent w x (none ∷ t) a = ap (λ (u : Places). none ∷ u) (swap-absent w x t (a .1))
@@ -44,7 +44,7 @@ module _ (y : Rec) where
   apart r t i a e = differ-sym (r .who) (y .who) (in-at (λ v. same (r .who) v ≡ false) t i y a e)
 
   -- a refresh and a goodbye change this place alone
-  pub swap-set : (x : Option Rec) (t : Places) (i : ℕ) → Once t → getD t i none ≡ some y → each (swap (y .who) x) t ≡ set t i x
+  pub swap-set : (x : Option Rec) (t : Places) (i : ℕ) → Once t → getD t i none ≡ some y → eachRecord (swap (y .who) x) t ≡ set t i x
   unfolding swap
   swap-set x [] i u e = refl
   swap-set x (none ∷ t) zero u e = absurd (Option·none-ne-some y e)

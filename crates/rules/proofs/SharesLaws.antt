@@ -16,9 +16,9 @@ use Rattle.tally.proofs.CountsLaws.{sum-same, sum-le, sum-add, sum-zero, sum-on
 use Rattle.rules.specs.Identity.{Ident}
 use Rattle.rules.specs.Shares.{sure, most, commonFor, beyond, share, portIs, room}
 use Rattle.rules.specs.declared.Room.the-variants.{Enough, Full, Taken}
-use Rattle.rules.specs.Model.{Rec, Places, tally, holds, put, each}
-use Rattle.rules.specs.Fit.{Absent, Ports, Fit}
-use Rattle.rules.proofs.EachLaws.{Keeps, Free, in-each, once-each, length-each, tally-each, in-put, once-put, length-put, tally-put}
+use Rattle.rules.specs.Model.{Rec, Places, tally, holdsIn, enter, eachRecord}
+use Rattle.rules.specs.Fit.{Absent, Ports, FitPlaces}
+use Rattle.rules.proofs.EachLaws.{Keeps, Free, in-each, once-each, length-each, tally-each, in-enter, once-enter, length-enter, tally-enter}
 
 -- Numbers by port
 
@@ -69,11 +69,11 @@ room-fits n number w e = share-fits n (λ q. number (portIs q)) (w .port) e
 abbrev used : Places → ℕ
 used t = tally (λ v. true) t
 
-used-sum : (n : ℕ) (t : Places) → Ports n t → used t ≡ sum (holds t) n
+used-sum : (n : ℕ) (t : Places) → Ports n t → used t ≡ sum (holdsIn t) n
 used-sum n [] h = sym (sum-zero n)
-used-sum n (none ∷ t) h = omega (arith, used-sum n t (h .1), sum-add (λ q. 0) (holds t) n, sum-zero n)
+used-sum n (none ∷ t) h = omega (arith, used-sum n t (h .1), sum-add (λ q. 0) (holdsIn t) n, sum-zero n)
 used-sum n (some r ∷ t) h =
-    omega (arith, used-sum n t (h .1), sum-add (λ q. one (eqb (r .who .port) q)) (holds t) n, sum-one (r .who .port) n (h .0))
+    omega (arith, used-sum n t (h .1), sum-add (λ q. one (eqb (r .who .port) q)) (holdsIn t) n, sum-one (r .who .port) n (h .0))
 
 free : (t : Places) → used t < length t → Free t
 free [] h = omega arith
@@ -81,7 +81,7 @@ free (none ∷ t) h = tt
 free (some r ∷ t) h = free t (omega arith)
 
 -- a port that there is not holds nothing
-pub ports-none : (n q : ℕ) (t : Places) → Ports n t → n ≤ q → holds t q ≡ 0
+pub ports-none : (n q : ℕ) (t : Places) → Ports n t → n ≤ q → holdsIn t q ≡ 0
 ports-none n q [] h l = refl
 ports-none n q (none ∷ t) h l = omega (arith, ports-none n q t (h .1) l)
 ports-none n q (some r ∷ t) h l = rw (ne-eqb (r .who .port) q (omega (arith, h .0))) (omega (arith, ports-none n q t (h .1) l))
@@ -89,14 +89,14 @@ ports-none n q (some r ∷ t) h l = rw (ne-eqb (r .who .port) q (omega (arith, h
 -- Fit tables
 
 -- room means a free place
-pub room-free : (n : ℕ) (t : Places) (p : ℕ) → Fit n t → p < n → Fits n (holds t) p → Free t
-room-free n t p f l k = free t (go (ltb (holds t p) sure) refl)
+pub room-free : (n : ℕ) (t : Places) (p : ℕ) → FitPlaces n t → p < n → Fits n (holdsIn t) p → Free t
+room-free n t p f l k = free t (go (ltb (holdsIn t p) sure) refl)
   where
-    go : (b : Bool) → ltb (holds t p) sure ≡ b → used t < length t
-    go true e = omega (arith, f .size, f .common, used-sum n t (f .ports), shares-lt n p (holds t) l (ltb-true (holds t p) sure e))
-    go false e = omega (arith, f .size, f .common, used-sum n t (f .ports), shares n (holds t), k .common (ltb-false (holds t p) sure e))
+    go : (b : Bool) → ltb (holdsIn t p) sure ≡ b → used t < length t
+    go true e = omega (arith, f .size, f .common, used-sum n t (f .ports), shares-lt n p (holdsIn t) l (ltb-true (holdsIn t p) sure e))
+    go false e = omega (arith, f .size, f .common, used-sum n t (f .ports), shares n (holdsIn t), k .common (ltb-false (holdsIn t p) sure e))
 
-pub fit-each : (f : Rec → Option Rec) → Keeps f → (n : ℕ) (t : Places) → Fit n t → Fit n (each f t)
+pub fit-each : (f : Rec → Option Rec) → Keeps f → (n : ℕ) (t : Places) → FitPlaces n t → FitPlaces n (eachRecord f t)
 unfolding beyond
 fit-each f k n t h =
     record {
@@ -104,49 +104,49 @@ fit-each f k n t h =
       once = once-each f k t (h .once);
       ports = in-each f k (λ v. v .port < n) t (h .ports);
       six = λ q. omega (arith, fewer q, h .six q);
-      common = omega (arith, h .common, sum-le (λ q. holds (each f t) q - sure) (λ q. holds t q - sure) n (λ q m. omega (arith, fewer q)));
+      common = omega (arith, h .common, sum-le (λ q. holdsIn (eachRecord f t) q - sure) (λ q. holdsIn t q - sure) n (λ q m. omega (arith, fewer q)));
     }
   where
-    fewer : (q : ℕ) → holds (each f t) q ≤ holds t q
+    fewer : (q : ℕ) → holdsIn (eachRecord f t) q ≤ holdsIn t q
     fewer q = tally-each f k (portIs q) t
 
 -- a record of a new identity, where the shares have room for it
-module _ (r : Rec) (n : ℕ) (t : Places) (h : Fit n t) (l : r .who .port < n) (k : Fits n (holds t) (r .who .port)) where
+module _ (r : Rec) (n : ℕ) (t : Places) (h : FitPlaces n t) (l : r .who .port < n) (k : Fits n (holdsIn t) (r .who .port)) where
   abbrev p : ℕ
   p = r .who .port
 
-  rises : (q : ℕ) → holds (put r t) q ≡ one (eqb p q) + holds t q
-  rises q = tally-put r (portIs q) t (room-free n t p h l k)
+  rises : (q : ℕ) → holdsIn (enter r t) q ≡ one (eqb p q) + holdsIn t q
+  rises q = tally-enter r (portIs q) t (room-free n t p h l k)
 
-  six-put : (q : ℕ) → holds (put r t) q ≤ most
-  six-put q = go (eqb p q) refl
+  six-enter : (q : ℕ) → holdsIn (enter r t) q ≤ most
+  six-enter q = go (eqb p q) refl
     where
-      go : (b : Bool) → eqb p q ≡ b → holds (put r t) q ≤ most
+      go : (b : Bool) → eqb p q ≡ b → holdsIn (enter r t) q ≤ most
       go true e =
-          let d : holds t q ≢ most = rw (eqb-true p q e) at (k .six) in
+          let d : holdsIn t q ≢ most = rw (eqb-true p q e) at (k .six) in
           omega (arith, rw e at (rises q), h .six q)
       go false e = omega (arith, rw e at (rises q), h .six q)
 
-  common-put : beyond n (holds (put r t)) ≤ commonFor n
+  common-enter : beyond n (holdsIn (enter r t)) ≤ commonFor n
   unfolding beyond
-  common-put = go (ltb (holds t p) sure) refl
+  common-enter = go (ltb (holdsIn t p) sure) refl
     where
-      go : (b : Bool) → ltb (holds t p) sure ≡ b → sum (λ q. holds (put r t) q - sure) n ≤ commonFor n
+      go : (b : Bool) → ltb (holdsIn t p) sure ≡ b → sum (λ q. holdsIn (enter r t) q - sure) n ≤ commonFor n
       go true e =
-          let s = ltb-true (holds t p) sure e in
-          let at : (q : ℕ) → holds (put r t) q - sure ≡ holds t q - sure = λ q. omega (arith, rises q, still-sure (holds t) p q s) in
-          omega (arith, h .common, sum-same (λ q. holds (put r t) q - sure) (λ q. holds t q - sure) n (λ q m. at q))
+          let s = ltb-true (holdsIn t p) sure e in
+          let at : (q : ℕ) → holdsIn (enter r t) q - sure ≡ holdsIn t q - sure = λ q. omega (arith, rises q, still-sure (holdsIn t) p q s) in
+          omega (arith, h .common, sum-same (λ q. holdsIn (enter r t) q - sure) (λ q. holdsIn t q - sure) n (λ q m. at q))
       go false e =
-          let s = k .common (ltb-false (holds t p) sure e) in
-          let m = sum-le (λ q. holds (put r t) q - sure) (λ q. one (eqb p q) + (holds t q - sure)) n (λ q m. omega (arith, rises q)) in
-          omega (arith, h .common, m, sum-add (λ q. one (eqb p q)) (λ q. holds t q - sure) n, sum-one p n l)
+          let s = k .common (ltb-false (holdsIn t p) sure e) in
+          let m = sum-le (λ q. holdsIn (enter r t) q - sure) (λ q. one (eqb p q) + (holdsIn t q - sure)) n (λ q m. omega (arith, rises q)) in
+          omega (arith, h .common, m, sum-add (λ q. one (eqb p q)) (λ q. holdsIn t q - sure) n, sum-one p n l)
 
-  pub fit-put : Absent (r .who) t → Fit n (put r t)
-  fit-put a =
+  pub fit-enter : Absent (r .who) t → FitPlaces n (enter r t)
+  fit-enter a =
       record {
-        size = length-put r t ∙ h .size;
-        once = once-put r t a (h .once);
-        ports = in-put r (λ v. v .port < n) l t (h .ports);
-        six = six-put;
-        common = common-put;
+        size = length-enter r t ∙ h .size;
+        once = once-enter r t a (h .once);
+        ports = in-enter r (λ v. v .port < n) l t (h .ports);
+        six = six-enter;
+        common = common-enter;
       }

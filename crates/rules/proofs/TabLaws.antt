@@ -1,5 +1,5 @@
 -- Lists given place by place: what a table's own changes and tests say of its places, said of the list.
--- One place written is `set`, each place by itself is `each`; what holds in every place holds in the list.
+-- One place written is `set`, each place by itself is `eachRecord`; what holds in every place holds in the list.
 use Prim.Native.Nat.{ℕ, zero, suc, _+_, _<_}
 use mathlib.Core.Path.{_≡_, refl, ap, ap₂, _∙_}
 use mathlib.Core.Logic.{_≢_}
@@ -9,7 +9,7 @@ use mathlib.Core.Option.{Option, none, some}
 use native.Mathlib.Omega.{arith}
 use lib.ListN.{length, getD, set}
 use Rattle.rules.specs.Identity.{Ident, same}
-use Rattle.rules.specs.Model.{Rec, Places, hits, tally, at, each}
+use Rattle.rules.specs.Model.{Rec, Places, hits, tally, onRecord, eachRecord}
 use Rattle.rules.specs.Fit.{InPlace, InAll, Absent, Once}
 use Rattle.rules.specs.Tab.{tab}
 use Rattle.rules.proofs.EachLaws.{Free}
@@ -49,7 +49,7 @@ tab-set (suc m) f g (suc i) l h =
     (tab-set m (next f) (next g) i (omega arith) (λ j k d. h (suc j) (omega arith) (λ e. d (omega arith))))
 
 -- each place by itself: seconds passed, link lost
-pub tab-each : (F : Rec → Option Rec) (m : ℕ) (f g : ℕ → Option Rec) → ((i : ℕ) → i < m → g i ≡ at F (f i)) → tab m g ≡ each F (tab m f)
+pub tab-each : (F : Rec → Option Rec) (m : ℕ) (f g : ℕ → Option Rec) → ((i : ℕ) → i < m → g i ≡ onRecord F (f i)) → tab m g ≡ eachRecord F (tab m f)
 unfolding tab
 tab-each F zero f g h = refl
 tab-each F (suc m) f g h = ap₂ cons (h 0 (omega arith)) (tab-each F m (next f) (next g) (λ i l. h (suc i) (omega arith)))

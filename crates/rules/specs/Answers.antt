@@ -8,12 +8,12 @@ use Rattle.rules.specs.declared.Reply.{Reply}
 use Rattle.rules.specs.declared.Reply.the-variants.{Recorded, Refreshed, Gone, UnknownGoodbye, Refused}
 
 -- 0 where it is no refusal
-abbrev pub refusalIn : Reply → ℕ
-refusalIn Recorded = 0
-refusalIn Refreshed = 0
-refusalIn Gone = 0
-refusalIn UnknownGoodbye = 0
-refusalIn (Refused n) = n
+abbrev pub refusalOfReply : Reply → ℕ
+refusalOfReply Recorded = 0
+refusalOfReply Refreshed = 0
+refusalOfReply Gone = 0
+refusalOfReply UnknownGoodbye = 0
+refusalOfReply (Refused n) = n
 
 -- R7 and R8
 abbrev pub onRoom : Room → Reply

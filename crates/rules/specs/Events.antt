@@ -5,7 +5,7 @@ use mathlib.Core.List.{List}
 use Rattle.rules.specs.Identity.{Ident}
 
 -- what a valid frame says, as far as a table asks: identity but for the port, seconds to live, and the octets of its LLDPDU
-pub record Said : Type 0 where
+pub record Announcement : Type 0 where
   pub chassis : List ℕ
   pub subtype : ℕ
   pub portId : List ℕ
@@ -15,7 +15,7 @@ pub record Said : Type 0 where
 -- what the reader says of a frame: its refusal number, or what the frame says
 pub data Heard : Type 0 where
   unread : ℕ → Heard
-  says : Said → Heard
+  says : Announcement → Heard
 
 pub data Event : Type 0 where
   frame : ℕ → Heard → Event
@@ -27,5 +27,5 @@ abbrev pub History : Type 0
 History = List Event
 
 -- the identity of what is heard on a port
-abbrev pub whose : ℕ → Said → Ident
+abbrev pub whose : ℕ → Announcement → Ident
 whose p a = record { port = p; chassis = a .chassis; subtype = a .subtype; portId = a .portId }

@@ -1,5 +1,5 @@
 -- When a list of places is fit (N5), but for what lies inside a place: that is said of octets, and not here.
--- `Fit n t` is what every event keeps; with it, a record that gets room finds a free place.
+-- `FitPlaces n t` is what every event keeps; with it, a record that gets room finds a free place.
 use Prim.Native.Nat.{ℕ, _≤_, _<_}
 use mathlib.Core.Path.{_≡_}
 use mathlib.Core.List.{[], _∷_}
@@ -8,7 +8,7 @@ use mathlib.Core.Option.{Option, none, some}
 use lib.ListN.{length}
 use Rattle.rules.specs.Identity.{Ident, same}
 use Rattle.rules.specs.Shares.{most, commonFor, placesFor, beyond}
-use Rattle.rules.specs.Model.{Rec, Places, holds}
+use Rattle.rules.specs.Model.{Rec, Places, holdsIn}
 
 -- P of the identity in a place, where the place has a record
 abbrev pub InPlace : (Ident → Type 0) → Option Rec → Type 0
@@ -34,9 +34,9 @@ abbrev pub Ports : ℕ → Places → Type 0
 Ports n t = InAll (λ v. v .port < n) t
 
 -- N5 with n ports: (d) is `once`, (e) is `six`, (f) is `common`
-pub record Fit (n : ℕ) (t : Places) : Type 0 where
+pub record FitPlaces (n : ℕ) (t : Places) : Type 0 where
   pub size : length t ≡ placesFor n
   pub once : Once t
   pub ports : Ports n t
-  pub six : (q : ℕ) → holds t q ≤ most
-  pub common : beyond n (holds t) ≤ commonFor n
+  pub six : (q : ℕ) → holdsIn t q ≤ most
+  pub common : beyond n (holdsIn t) ≤ commonFor n

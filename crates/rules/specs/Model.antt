@@ -9,7 +9,7 @@ use lib.ListN.{replicate}
 use Rattle.tally.specs.Tests.{pick}
 use Rattle.tally.specs.Counts.{one}
 use Rattle.rules.specs.Identity.{Ident, same}
-use Rattle.rules.specs.Events.{Said, Heard, unread, says, Event, frame, passed, lost, History, whose}
+use Rattle.rules.specs.Events.{Announcement, Heard, unread, says, Event, frame, passed, lost, History, whose}
 use Rattle.rules.specs.Shares.{placesFor, portIs, room}
 use Rattle.rules.specs.Answers.{answerTo}
 use Rattle.rules.specs.declared.Reply.{Reply}
@@ -43,23 +43,23 @@ tally g [] = 0
 tally g (x ∷ t) = hits g x + tally g t
 
 -- how many a port holds (N10)
-abbrev pub holds : Places → ℕ → ℕ
-holds t q = tally (portIs q) t
+abbrev pub holdsIn : Places → ℕ → ℕ
+holdsIn t q = tally (portIs q) t
 
 -- into the lowest free place (N4)
-abbrev pub put : Rec → Places → Places
-put r [] = []
-put r (none ∷ t) = some r ∷ t
-put r (some x ∷ t) = some x ∷ put r t
+abbrev pub enter : Rec → Places → Places
+enter r [] = []
+enter r (none ∷ t) = some r ∷ t
+enter r (some x ∷ t) = some x ∷ enter r t
 
 -- what happens to each record by itself
-abbrev pub at : (Rec → Option Rec) → Option Rec → Option Rec
-at f none = none
-at f (some r) = f r
+abbrev pub onRecord : (Rec → Option Rec) → Option Rec → Option Rec
+onRecord f none = none
+onRecord f (some r) = f r
 
-abbrev pub each : (Rec → Option Rec) → Places → Places
-each f [] = []
-each f (x ∷ t) = at f x ∷ each f t
+abbrev pub eachRecord : (Rec → Option Rec) → Places → Places
+eachRecord f [] = []
+eachRecord f (x ∷ t) = onRecord f x ∷ eachRecord f t
 
 -- seconds pass (N8)
 unfoldable pub tick : ℕ → Rec → Option Rec
@@ -74,14 +74,14 @@ unfoldable pub swap : Ident → Option Rec → Rec → Option Rec
 swap w new r = pick (same w (r .who)) new (some r)
 
 -- what is recorded of what is heard on port p
-abbrev pub recorded : ℕ → Said → Rec
+abbrev pub recorded : ℕ → Announcement → Rec
 recorded p a = record { who = whose p a; left = a .seconds; octets = a .octets }
 
 -- what an answer does with the record that was heard
 abbrev pub act : Reply → Rec → Places → Places
-act Recorded r t = put r t
-act Refreshed r t = each (swap (r .who) (some r)) t
-act Gone r t = each (swap (r .who) none) t
+act Recorded r t = enter r t
+act Refreshed r t = eachRecord (swap (r .who) (some r)) t
+act Gone r t = eachRecord (swap (r .who) none) t
 act UnknownGoodbye r t = t
 act (Refused k) r t = t
 
@@ -91,15 +91,15 @@ reply n p (unread k) t = pick (ltb p n) (Refused k) (Refused 2)
 reply n p (says a) t =
     pick (ltb p n) (answerTo (eqb (a .seconds) 0) (isSome (lookup (whose p a) t)) (room n (λ g. tally g t) (whose p a))) (Refused 2)
 
-unfoldable pub onFrame : ℕ → ℕ → Heard → Places → Places
+unfoldable pub afterFrame : ℕ → ℕ → Heard → Places → Places
 unfolding reply
-onFrame n p (unread k) t = t
-onFrame n p (says a) t = act (reply n p (says a) t) (recorded p a) t
+afterFrame n p (unread k) t = t
+afterFrame n p (says a) t = act (reply n p (says a) t) (recorded p a) t
 
 abbrev pub step : ℕ → Event → Places → Places
-step n (frame p x) t = onFrame n p x t
-step n (passed s) t = each (tick s) t
-step n (lost p) t = each (unplug p) t
+step n (frame p x) t = afterFrame n p x t
+step n (passed s) t = eachRecord (tick s) t
+step n (lost p) t = eachRecord (unplug p) t
 
 -- from Start on
 abbrev pub run : ℕ → History → Places

@@ -23,7 +23,7 @@ use Rattle.lldpdu.proofs.Stable.{sized}
 use Rattle.reader.specs.Frame as reader
 use Rattle.reader.proofs.FrameLaws.{frame-size, on-good, on-bad}
 use Rattle.rules.specs.Identity.{Ident, same}
-use Rattle.rules.specs.Events.{Said, Heard, unread, says, whose}
+use Rattle.rules.specs.Events.{Announcement, Heard, says, whose}
 use Rattle.rules.specs.Shares.{share, room}
 use Rattle.rules.specs.Answers.{answerTo}
 use Rattle.rules.specs.declared.Room.{Room}
@@ -31,22 +31,22 @@ use Rattle.rules.specs.declared.Room.the-variants.{Enough, Full, Taken}
 use Rattle.rules.specs.declared.Reply.{Reply}
 use Rattle.rules.specs.declared.Reply.the-variants.{Recorded, Refreshed, Gone, UnknownGoodbye, Refused}
 use Rattle.rules.specs.Model as model
-use Rattle.rules.specs.Model.{Rec, isSome, lookup, tally, swap, recorded, act, reply, onFrame}
+use Rattle.rules.specs.Model.{Rec, isSome, lookup, tally, swap, recorded, act, reply, afterFrame}
 use Rattle.rules.specs.Fit.{Absent, Once}
 use Rattle.rules.proofs.IdentityLaws.{same-true, differ-sym}
 use Rattle.rules.proofs.EachLaws.{absent-lookup}
 use Rattle.rules.proofs.FrameLaws.{no-reply, no-frame, unread-reply, unread-frame, reply-is, frame-is}
-use Rattle.rules.proofs.PlacesLaws.{put-set, swap-set, lookup-at}
+use Rattle.rules.proofs.PlacesLaws.{enter-set, swap-set, lookup-at}
 use Rattle.rules.proofs.TabLaws.{in-tab}
 use Rattle.numbers.specs.Sizes.{ports, places}
 use Rattle.numbers.specs.Numbers.{isFree, holds, firstFree}
-use Rattle.place.specs.State.{Place, State, Sized, size, at, put, used, free, keep, said, whoAt, isOf, find, number}
+use Rattle.place.specs.State.{Place, State, Sized, size, at, put, used, free, keep, said, whoAt, isOf, find, countRecords}
 use Rattle.marks.specs.PlaceFit.{okPlace}
 use Rattle.fitness.specs.Fit.{fit, Fit}
-use Rattle.hearing.specs.Frame.{extentOn, heardIn, heardOf, Told, telling, stateTold, heardAt, onRoom, heardNew, heardSaying, onHeard, heard}
+use Rattle.hearing.specs.Frame.{extentOn, heardIn, heardOf, Told, telling, stateTold, heardAt, heardByRoom, heardNew, heardSaying, onHeard, heard}
 use Rattle.fitness.specs.View.{recOf, placeOf, view}
 use Rattle.place.proofs.PutLaws.{put-sized}
-use Rattle.fitness.proofs.ViewLaws.{place-free, place-used, Seen, seen, placed, getD-view, view-long, number-view, number-holds, view-fits}
+use Rattle.fitness.proofs.ViewLaws.{place-free, place-used, Seen, seen, placed, getD-view, view-long, count-view, count-holds, view-fits}
 use Rattle.fitness.proofs.FitLaws.{parts-fit, room-for}
 use Rattle.fitness.proofs.KeepLaws.{outline-extent, kept-long, kept-extent, free-ok, free-long, keep-long}
 use Rattle.fitness.proofs.WrittenLaws.{Good, Spoken, keep-place, keep-good, put-view, put-good}
@@ -78,13 +78,13 @@ spoken f e v =
 
 pub record Right (s : State) (p : ℕ) (x : Heard) (t : Told) : Type 0 where
   pub answer : t .outcome .reply ≡ reply ports p x (view s)
-  pub seen : view (stateTold t) ≡ onFrame ports p x (view s)
+  pub seen : view (stateTold t) ≡ afterFrame ports p x (view s)
   pub sized : Sized places (stateTold t)
   pub good : Good (stateTold t)
 
 -- An LLDPDU on a port below the last
 
-module _ (s : State) (z : Sized places s) (f : Fit s) (p : ℕ) (low : p < ports) (a : Said) (c : Spoken a) where
+module _ (s : State) (z : Sized places s) (f : Fit s) (p : ℕ) (low : p < ports) (a : Announcement) (c : Spoken a) where
   abbrev w : Ident
   w = whose p a
 
@@ -98,12 +98,12 @@ module _ (s : State) (z : Sized places s) (f : Fit s) (p : ℕ) (low : p < ports
   once = view-fits s f .once
 
   -- nothing changes but the answer
-  stays : (x : Reply) → reply ports p (says a) (view s) ≡ x → onFrame ports p (says a) (view s) ≡ view s → answers (telling x s)
+  stays : (x : Reply) → reply ports p (says a) (view s) ≡ x → afterFrame ports p (says a) (view s) ≡ view s → answers (telling x s)
   stays x e q = record { answer = sym e; seen = sym q; sized = z; good = f .good }
 
   -- place k is written
   writes : (x : Reply) (k : ℕ) → k < places → (y : Place) → length (y .body) ≡ size → okPlace y ≡ true → reply ports p (says a) (view s) ≡ x
-      → onFrame ports p (says a) (view s) ≡ set (view s) k (placeOf y) → answers (telling x (put s k y))
+      → afterFrame ports p (says a) (view s) ≡ set (view s) k (placeOf y) → answers (telling x (put s k y))
   writes x k l y long ok e q =
       record {
         answer = sym e;
@@ -114,21 +114,21 @@ module _ (s : State) (z : Sized places s) (f : Fit s) (p : ℕ) (low : p < ports
 
   -- the room by the table's own count is the room by the model's, and by the numbers alone
   abbrev there : Room
-  there = room ports (number s) w
+  there = room ports (countRecords s) w
 
   room-seen : there ≡ room ports (λ g. tally g (view s)) w
-  room-seen = ap (λ (h : (Ident → Bool) → ℕ). room ports h w) (fun-ext (number-view s))
+  room-seen = ap (λ (h : (Ident → Bool) → ℕ). room ports h w) (fun-ext (count-view s))
 
   room-share : there ≡ share ports (holds (s .table)) p
   unfolding room
-  room-share = ap (λ (h : ℕ → ℕ). share ports h p) (fun-ext (number-holds s))
+  room-share = ap (λ (h : ℕ → ℕ). share ports h p) (fun-ext (count-holds s))
 
   -- the model's side: a goodbye or not, known or not, and the room
   module _ (b : Bool) (e : eqb (a .seconds) 0 ≡ b) (k : Bool) (i : isSome (lookup w (view s)) ≡ k) (rm : Room) (m : there ≡ rm) where
     told : reply ports p (says a) (view s) ≡ answerTo b k rm
     told = reply-is ports (view s) p a low k rm i (sym room-seen ∙ m) ∙ ap (λ (x : Bool). answerTo x k rm) e
 
-    gives : onFrame ports p (says a) (view s) ≡ act (answerTo b k rm) (recorded p a) (view s)
+    gives : afterFrame ports p (says a) (view s) ≡ act (answerTo b k rm) (recorded p a) (view s)
     gives = frame-is ports (view s) p a low k rm i (sym room-seen ∙ m) ∙ ap (λ (x : Bool). act (answerTo x k rm) (recorded p a) (view s)) e
 
   -- the identity is known
@@ -149,8 +149,8 @@ module _ (s : State) (z : Sized places s) (f : Fit s) (p : ℕ) (low : p < ports
     known : isSome (lookup w (view s)) ≡ true
     known = ap (λ (v : Ident). isSome (lookup v (view s))) (sym found-who) ∙ ap isSome (lookup-at (recOf here) (view s) (find s w) once found-at)
 
-    swapped : (x : Option Rec) → model.each (swap w x) (view s) ≡ set (view s) (find s w) x
-    swapped x = ap (λ (v : Ident). model.each (swap v x) (view s)) (sym found-who) ∙ swap-set (recOf here) x (view s) (find s w) once found-at
+    swapped : (x : Option Rec) → model.eachRecord (swap w x) (view s) ≡ set (view s) (find s w) x
+    swapped x = ap (λ (v : Ident). model.eachRecord (swap v x) (view s)) (sym found-who) ∙ swap-set (recOf here) x (view s) (find s w) once found-at
 
     known-right : answers (heardAt (find s w) p (a .seconds) (a .octets) s)
     unfolding heardAt
@@ -193,16 +193,16 @@ module _ (s : State) (z : Sized places s) (f : Fit s) (p : ℕ) (low : p < ports
       unfolding firstFree at
       first-least j m = eqb-false (getD (s .table .length) j 0) 0 (first-before (isFree (s .table)) places 0 j (omega arith) m)
 
-      taken : model.put (recorded p a) (view s) ≡ set (view s) first (some (recorded p a))
+      taken : model.enter (recorded p a) (view s) ≡ set (view s) first (some (recorded p a))
       taken =
-          put-set (recorded p a) (view s) first (omega (arith, h, view-long s)) (getD-view s first h ∙ place-free (at s first) first-free)
+          enter-set (recorded p a) (view s) first (omega (arith, h, view-long s)) (getD-view s first h ∙ place-free (at s first) first-free)
           (λ j m. ap isSome (getD-view s j (omega (arith, m, h)) ∙ place-used (at s j) (first-least j m)))
 
     new-right : answers (heardNew p (a .seconds) w (a .octets) s)
     unfolding heardNew
     new-right = zero-or (eqb (a .seconds) 0) refl
       where
-        go : eqb (a .seconds) 0 ≡ false → (rm : Room) → there ≡ rm → answers (onRoom rm p (a .seconds) (a .octets) s)
+        go : eqb (a .seconds) 0 ≡ false → (rm : Room) → there ≡ rm → answers (heardByRoom rm p (a .seconds) (a .octets) s)
         go e Full m = stays (Refused 7) (told false e false new Full m) (gives false e false new Full m)
         go e Taken m = stays (Refused 8) (told false e false new Taken m) (gives false e false new Taken m)
         go e Enough m =
@@ -211,7 +211,7 @@ module _ (s : State) (z : Sized places s) (f : Fit s) (p : ℕ) (low : p < ports
             (told false e false new Enough m)
             (gives false e false new Enough m ∙ taken h ∙ ap (set (view s) (firstFree (s .table))) (sym (keep-place p a c)))
 
-        zero-or : (b : Bool) → eqb (a .seconds) 0 ≡ b → answers (pick b (telling UnknownGoodbye s) (onRoom there p (a .seconds) (a .octets) s))
+        zero-or : (b : Bool) → eqb (a .seconds) 0 ≡ b → answers (pick b (telling UnknownGoodbye s) (heardByRoom there p (a .seconds) (a .octets) s))
         zero-or true e = stays UnknownGoodbye (told true e false new there refl) (gives true e false new there refl)
         zero-or false e = go e there refl
 
@@ -235,9 +235,6 @@ module _ (s : State) (e : fit s ≡ true) (p : ℕ) (f : List ℕ) where
   pub out-of-ports : ports ≤ p → heard p f s ≡ telling (Refused 2) s
   unfolding heard
   out-of-ports h = rw (e, le-ltb p ports h)
-
-  pub not-read : (k : ℕ) → p < ports → heardOf f ≡ unread k → heard p f s ≡ telling (Refused k) s
-  not-read k h q = in-ports h ∙ ap (λ (x : Heard). onHeard x p s) q
 
 module _ (s : State) (z : Sized places s) (f : Fit s) (p : ℕ) where
   no-port : (x : Heard) → ports ≤ p → Right s p x (telling (Refused 2) s)

@@ -71,20 +71,20 @@ lost-long p x e = lost-by (λ y. length (y .body) ≡ size) x (λ z. e) p (λ u 
 
 -- As the model sees it
 
-pub aged-place : (n : ℕ) (x : Place) → placeOf (aged n x) ≡ model.at (tick n) (placeOf x)
+pub aged-place : (n : ℕ) (x : Place) → placeOf (aged n x) ≡ model.onRecord (tick n) (placeOf x)
 unfolding tick
 aged-place n x =
-    aged-by (λ y. placeOf y ≡ model.at (tick n) (placeOf x)) x
-    (λ z. place-free x z ∙ sym (ap (model.at (tick n)) (place-free x z)))
+    aged-by (λ y. placeOf y ≡ model.onRecord (tick n) (placeOf x)) x
+    (λ z. place-free x z ∙ sym (ap (model.onRecord (tick n)) (place-free x z)))
     n
-    (λ u h. place-free free refl ∙ sym (ap (model.at (tick n)) (place-used x u) ∙ rw (le-leb (x .seconds) n h)))
-    (λ u h. place-used (less n x) u ∙ sym (ap (model.at (tick n)) (place-used x u) ∙ rw (lt-leb (x .seconds) n h)))
+    (λ u h. place-free free refl ∙ sym (ap (model.onRecord (tick n)) (place-used x u) ∙ rw (le-leb (x .seconds) n h)))
+    (λ u h. place-used (less n x) u ∙ sym (ap (model.onRecord (tick n)) (place-used x u) ∙ rw (lt-leb (x .seconds) n h)))
 
-pub lost-place : (p : ℕ) (x : Place) → placeOf (lost p x) ≡ model.at (unplug p) (placeOf x)
+pub lost-place : (p : ℕ) (x : Place) → placeOf (lost p x) ≡ model.onRecord (unplug p) (placeOf x)
 unfolding unplug
 lost-place p x =
-    lost-by (λ y. placeOf y ≡ model.at (unplug p) (placeOf x)) x
-    (λ z. place-free x z ∙ sym (ap (model.at (unplug p)) (place-free x z)))
+    lost-by (λ y. placeOf y ≡ model.onRecord (unplug p) (placeOf x)) x
+    (λ z. place-free x z ∙ sym (ap (model.onRecord (unplug p)) (place-free x z)))
     p
-    (λ u h. place-free free refl ∙ sym (ap (model.at (unplug p)) (place-used x u) ∙ rw (eq-eqb (x .port) p h)))
-    (λ u h. place-used x u ∙ sym (ap (model.at (unplug p)) (place-used x u) ∙ rw (ne-eqb (x .port) p h)))
+    (λ u h. place-free free refl ∙ sym (ap (model.onRecord (unplug p)) (place-used x u) ∙ rw (eq-eqb (x .port) p h)))
+    (λ u h. place-used x u ∙ sym (ap (model.onRecord (unplug p)) (place-used x u) ∙ rw (ne-eqb (x .port) p h)))

@@ -8,18 +8,18 @@ use native.Mathlib.Omega.{arith}
 use lib.Dec.{ltb, eqb}
 use lib.ListN.{length}
 use Rattle.tally.specs.Tests.{pick}
-use Rattle.rules.specs.Events.{Said, Heard, unread, says, whose}
+use Rattle.rules.specs.Events.{Announcement, Heard, unread, says, whose}
 use Rattle.rules.specs.Shares.{room}
 use Rattle.rules.specs.declared.Room.{Room}
 use Rattle.rules.specs.declared.Room.the-variants.{Enough, Full, Taken}
 use Rattle.rules.specs.declared.Reply.{Reply}
 use Rattle.rules.specs.declared.Reply.the-variants as reply
 use Rattle.numbers.specs.Sizes.{ports, places}
-use Rattle.place.specs.State.{State, octets, put, each, free, keep, find, number, empty}
+use Rattle.place.specs.State.{State, octets, put, each, free, keep, find, countRecords, empty}
 use Rattle.fitness.specs.Fit.{fit}
 use Rattle.freeing.specs.Changes.{aged, lost}
 use Rattle.freeing.specs.Calls.{After, answered, stateAfter, started, ifPort, passed, linkLost}
-use Rattle.hearing.specs.Frame.{heardOf, Told, telling, stateTold, heardAt, onRoom, heardNew, heardSaying, onHeard, heard}
+use Rattle.hearing.specs.Frame.{heardOf, Told, telling, stateTold, heardAt, heardByRoom, heardNew, heardSaying, onHeard, heard}
 use Rattle.freeing.specs.declared.Answer.the-variants.{Done, Refused}
 
 module _ (s : State) where
@@ -73,19 +73,19 @@ module _ (s : State) where
       go true j e = let z : _≡_ {A = ℕ} 0 1 = cc in absurd (omega arith)
       go false j e = let z : _≡_ {A = ℕ} 0 1 = cc in absurd (omega arith)
 
-  room-unchanged : (r : Room) (p n : ℕ) (l : List ℕ) → Untold (onRoom r p n l s)
+  room-unchanged : (r : Room) (p n : ℕ) (l : List ℕ) → Untold (heardByRoom r p n l s)
   room-unchanged Full p n l = stays (reply.Refused 7)
   room-unchanged Taken p n l = stays (reply.Refused 8)
   room-unchanged Enough p n l = λ j e. let z : _≡_ {A = ℕ} 0 1 = cc in absurd (omega arith)
 
-  saying-unchanged : (p : ℕ) (a : Said) → Untold (heardSaying p a s)
+  saying-unchanged : (p : ℕ) (a : Announcement) → Untold (heardSaying p a s)
   unfolding heardSaying heardNew
   saying-unchanged p a =
       let k = find s (whose p a) in
-      let r = room ports (number s) (whose p a) in
+      let r = room ports (countRecords s) (whose p a) in
       either-way (ltb k places) (heardAt k p (a .seconds) (a .octets) s) (heardNew p (a .seconds) (whose p a) (a .octets) s)
       (at-unchanged k p (a .seconds) (a .octets))
-      (either-way (eqb (a .seconds) 0) (telling reply.UnknownGoodbye s) (onRoom r p (a .seconds) (a .octets) s)
+      (either-way (eqb (a .seconds) 0) (telling reply.UnknownGoodbye s) (heardByRoom r p (a .seconds) (a .octets) s)
       (stays reply.UnknownGoodbye)
       (room-unchanged r p (a .seconds) (a .octets)))
 

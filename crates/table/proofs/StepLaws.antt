@@ -29,7 +29,7 @@ use Rattle.hearing.specs.Frame.{heardOf, stateTold, heard}
 use Rattle.fitness.specs.View.{placeOf, view}
 use Rattle.freeing.specs.declared.Answer.the-variants.{Done, Refused}
 use Rattle.fitness.proofs.ViewLaws.{place-free, placed, view-fits, fit-view}
-use Rattle.fitness.proofs.FitLaws.{fit-parts, parts-fit}
+use Rattle.fitness.proofs.FitLaws.{parts-fit}
 use Rattle.fitness.proofs.KeepLaws.{free-ok}
 use Rattle.table.proofs.PassingLaws.{aged-ok, aged-long, lost-ok, lost-long, aged-place, lost-place}
 use Rattle.fitness.proofs.WrittenLaws.{Good, each-sized, each-good, each-view}
@@ -45,14 +45,10 @@ pub record Stepped (s : State) (e : Event) (s′ : State) : Type 0 where
   pub kept : Kept s′
   pub seen : view s′ ≡ model.step ports e (view s)
 
--- the arrays of a struct have their lengths, so the test is all that is asked of a table
-pub kept-of : (s : State) → Sized places s → fit s ≡ true → Kept s
-kept-of s z e = record { sized = z; fit = fit-parts s e }
-
 pub kept-fit : (s : State) → Kept s → fit s ≡ true
 kept-fit s k = parts-fit s (k .fit)
 
-pub view-fit : (s : State) → Kept s → model-fit.Fit ports (view s)
+pub view-fit : (s : State) → Kept s → model-fit.FitPlaces ports (view s)
 view-fit s k = view-fits s (k .fit)
 
 -- what is left to show of a table that a step leads to: the model's own step keeps the rest

@@ -10,7 +10,7 @@ use native.Mathlib.Numerals.{add-one}
 use borrow.Author.Tests.{eqb-true, eqb-false}
 use lib.Dec.{eqb}
 use Rattle.tally.specs.Tests.{either}
-use Rattle.tally.specs.Ranges.{allBelow, some}
+use Rattle.tally.specs.Ranges.{allBelow, someBelow}
 use Rattle.tally.proofs.TestsLaws.{both-false, either-right}
 
 -- Every one
@@ -50,19 +50,19 @@ in-range p lo n b e h k = ap p (omega arith) ∙ all-true (λ d. p (lo + d)) n e
 
 -- the loop that looks for a number below n: nothing is found below 0, a miss goes on, a hit decides
 module _ (p : ℕ → Bool) where
-  pub some-none : some p 0 ≡ false
-  unfolding some
+  pub some-none : someBelow p 0 ≡ false
+  unfolding someBelow
   some-none = refl
 
-  pub some-miss : (i : ℕ) → some p i ≡ false → p i ≡ false → some p (i + 1) ≡ false
-  unfolding some
+  pub some-miss : (i : ℕ) → someBelow p i ≡ false → p i ≡ false → someBelow p (i + 1) ≡ false
+  unfolding someBelow
   some-miss i e f = rw (add-one i, e, f)
 
-  pub some-hit : (i n : ℕ) → i < n → p i ≡ true → some p n ≡ true
-  unfolding some
+  pub some-hit : (i n : ℕ) → i < n → p i ≡ true → someBelow p n ≡ true
+  unfolding someBelow
   some-hit i zero h t = absurd (omega arith)
   some-hit i (suc n) h t = go (eqb i n) refl (some-hit i n)
     where
-      go : (b : Bool) → eqb i n ≡ b → (i < n → p i ≡ true → some p n ≡ true) → either (some p n) (p n) ≡ true
-      go true e ih = either-right (some p n) (p n) (ap p (sym (eqb-true i n e)) ∙ t)
+      go : (b : Bool) → eqb i n ≡ b → (i < n → p i ≡ true → someBelow p n ≡ true) → either (someBelow p n) (p n) ≡ true
+      go true e ih = either-right (someBelow p n) (p n) (ap p (sym (eqb-true i n e)) ∙ t)
       go false e ih = rw (ih (omega (arith, eqb-false i n e)) t)

@@ -52,6 +52,14 @@ not-below m n = go (ltb m n) refl
     go true e = lt-leb n m (ltb-true m n e)
     go false e = le-leb n m (ltb-false m n e)
 
+-- at least 1 is not 0
+pub above-0 : (n : ℕ) → leb 1 n ≡ not (eqb n 0)
+above-0 n = go (eqb n 0) refl
+  where
+    go : (b : Bool) → eqb n 0 ≡ b → leb 1 n ≡ not b
+    go true e = lt-leb 1 n (omega (arith, eqb-true n 0 e))
+    go false e = le-leb 1 n (omega (arith, eqb-false n 0 e))
+
 -- what is no more than a bound is below it or is it
 pub below-or-at : (h m : ℕ) → h ≤ m → ltb h m ≡ not (eqb h m)
 below-or-at h m l = go (eqb h m) refl

@@ -10,6 +10,6 @@ allBelow f zero = true
 allBelow f (suc n) = both (allBelow f n) (f n)
 
 -- some number below n passes
-unfoldable pub some : (ℕ → Bool) → ℕ → Bool
-some p zero = false
-some p (suc n) = either (some p n) (p n)
+unfoldable pub someBelow : (ℕ → Bool) → ℕ → Bool
+someBelow p zero = false
+someBelow p (suc n) = either (someBelow p n) (p n)

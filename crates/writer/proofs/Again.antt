@@ -6,8 +6,11 @@ use mathlib.Core.List.{List, _++_}
 use mathlib.Core.Bool.{Bool, true, false}
 use native.Mathlib.Omega.{arith}
 use borrow.Author.Tests.{le-leb, leb-true}
+use borrow.Fn.Kinds.{Dens, resT, endedOf}
+use contract.Lifetimes.{Lfts}
+use denote.Triple.Clauses.{AtExit}
 use lib.ListN.{length, take, drop}
-use lib.Seq.{take-at, take-all}
+use lib.Seq.{take-at, take-all, drop-at}
 use lib.Dec.{leb, eqb}
 use Rattle.tally.specs.Tests.{pick, both}
 use Rattle.fields.specs.Field.{portDescription, category, manufacturer, modelName, modelNumber, link, addressList, topics}
@@ -19,8 +22,9 @@ use Rattle.walk.specs.declared.Extent.the-variants as extent-is
 use Rattle.text.specs.declared.Part.{Part}
 use Rattle.found.specs.Found.{markOf}
 use Rattle.reading.specs.Reading.{partAt, linkAt, listAt, foundIn, readingOf}
-use Rattle.reader.specs.Frame.{frameOk, onFrame, ReadsFrame}
-use Rattle.reading.specs.Meaning.{refused, Answer, answerOf, saidBy, meant, Reads}
+use Rattle.reader.specs.Frame.{frameOk, ReadsFrame}
+use Rattle.reader.proofs.Agree.{frame-reads}
+use Rattle.reading.specs.Meaning.{ReaderAnswer, answerOf, saidBy, meant, Reads}
 use Rattle.reading.proofs.MeaningLaws.{LinkFits, reading-link-fits, marks-inside}
 use Rattle.found.specs.declared.Mark.{Mark}
 use Rattle.reading.specs.declared.Link.{Link}
@@ -32,9 +36,29 @@ use Rattle.announcement.specs.Encode.{encode}
 use Rattle.parts.specs.Inside.{partInside, linkInside, listInside, allInside}
 use Rattle.description.specs.Rules.{soundOf}
 use Rattle.writer.specs.Write.{keeps, writeOf, octetsWritten, over, Writes}
-use Rattle.writer.proofs.RoundTrip.{answered, read-back, read-frame-back, good-written}
+use Rattle.writer.proofs.RoundTrip.{answered, read-back, good-written}
+use Rattle.reading.proofs.read_lldpdu.Kinds as lldpdu-kinds
+use Rattle.reading.proofs.read_lldpdu.Reads as read-lldpdu
+use Rattle.reader.proofs.read_frame.Kinds as frame-kinds
+use Rattle.reader.proofs.read_frame.Reads as read-frame
+use Rattle.writer.proofs.write.Kinds as write-kinds
+use Rattle.writer.proofs.write.Reads as write
 use Rattle.writer.specs.declared.Written.{Written}
 use Rattle.writer.specs.declared.Written.the-variants.{Octets, Refused}
+
+-- What the contracts state, as the toolchain reads them from the source: these records, of which all below speaks
+
+pub write-states : (κs : Lfts 2) (a : Dens κs write-kinds.ps) (r : resT write-kinds.r κs .Denot) (x : AtExit (endedOf 2 write-kinds.ps write-kinds.r) κs)
+    → write.Post κs a r x → Writes (a .1 .0 .now) (a .0) (a .1 .1 .0 .now) r (x .1 .1 .0 .now)
+write-states κs a r x post = post
+
+pub lldpdu-states : (κs : Lfts 1) (a : Dens κs lldpdu-kinds.ps) (r : resT lldpdu-kinds.r κs .Denot) (x : AtExit (endedOf 1 lldpdu-kinds.ps lldpdu-kinds.r) κs)
+    → read-lldpdu.Post κs a r x → Reads (a .0 .now) r
+lldpdu-states κs a r x post = post
+
+pub frame-states : (κs : Lfts 1) (a : Dens κs frame-kinds.ps) (r : resT frame-kinds.r κs .Denot) (x : AtExit (endedOf 1 frame-kinds.ps frame-kinds.r) κs)
+    → read-frame.Post κs a r x → ReadsFrame (a .0 .now) r
+frame-states κs a r x post = post
 
 -- What an answer of n octets says of the description
 
@@ -117,44 +141,62 @@ module _ (s : List ℕ) (d : Description) (out now : List ℕ) (n : ℕ) (w : Wr
   front : take n now ≡ encode (saidBy s d)
   front = ap (take n) now-is ∙ take-at (encode (saidBy s d)) (drop n out) n (sym (wrote .count))
 
-  -- `read_frame` of these octets, behind any header that fits and with any padding, answers the same description,
-  -- of n octets, and HTIP exactly with seconds above 0
-  pub same-frame : (h t : List ℕ) (q : Reading) → length h ≡ 14 → frameOk h ≡ true → length (take n now ++ t) ≤ 1500
-      → ReadsFrame (h ++ (take n now ++ t)) q → meant (drop 14 (h ++ (take n now ++ t))) q ≡ answered (saidBy s d)
-  same-frame h t q l o m r =
-      r .means
-      ∙ ap (λ (x : List ℕ). onFrame (refused 3) answerOf (h ++ (x ++ t))) front
-      ∙ read-frame-back (saidBy s d) h t (wrote .sound) l o (rw front at m)
+  -- `write` of any description that says the same over a text u, with its parts inside u, writes the same octets into an output with room
+  again : (u : List ℕ) (e : Description) → allInside (length u) e ≡ true → saidBy u e ≡ saidBy s d
+      → (out₂ now₂ : List ℕ) (r₂ : Written) → Writes u e out₂ r₂ now₂ → n ≤ length out₂
+      → (r₂ ≡ Octets n) × (take n now₂ ≡ take n now)
+  unfolding writeOf keeps
+  again u e i v out₂ now₂ r₂ w₂ h =
+      let x = encode (saidBy s d) in
+      let c = wrote .count in
+      let a : r₂ ≡ Octets n = w₂ .exact ∙ rw (i, v, wrote .sound, ← c, le-leb n 1500 (wrote .short), le-leb n (length out₂) h) in
+      let o : now₂ ≡ take n x ++ drop n out₂ =
+      w₂ .output ∙ ap₂ (λ (k : ℕ) (y : List ℕ). over k y out₂) (ap octetsWritten a) (ap encode v) in (
+        a,
+        ap (take n) (o ∙ ap (λ (l : List ℕ). l ++ drop n out₂) (take-all n x (omega (arith, c)))) ∙ take-at x (drop n out₂) n (sym c) ∙ sym front,
+      )
+
+  -- what was read of any text u that starts with these octets: the same description, of n octets, and HTIP exactly with seconds above 0
+  module _ (u t : List ℕ) (b : u ≡ encode (saidBy s d) ++ t) {q : Reading} (r : Reads u q) where
+    read-same : meant u q ≡ answered (saidBy s d)
+    read-same = r .means ∙ ap answerOf b ∙ read-back (saidBy s d) t (wrote .sound)
+
+    said-same : saidBy u (q .description) ≡ saidBy s d
+    said-same = ap (λ (a : ReaderAnswer). a .said) read-same
+
+    extent-is-n : extentOf u ≡ extent-is.Octets (length (encode (saidBy s d)))
+    extent-is-n = ap extentOf b ∙ reads (encode (saidBy s d) ++ t) (length (encode (saidBy s d))) (good-written (saidBy s d) t (wrote .sound))
+
+    read-inside : allInside (length u) (q .description) ≡ true
+    read-inside =
+        ap (λ (x : Reading). allInside (length u) (x .description)) (r .exact) ∙ reading-inside u (length (encode (saidBy s d))) extent-is-n
 
   -- `read_lldpdu` was called on the whole output
   module _ (q : Reading) (r : Reads now q) where
     pub same-description : meant now q ≡ answered (saidBy s d)
-    same-description = r .means ∙ ap answerOf now-is ∙ read-back (saidBy s d) (drop n out) (wrote .sound)
-
-    said-same : saidBy now (q .description) ≡ saidBy s d
-    said-same = ap (λ (a : Answer). a .said) same-description
-
-    extent-is-n : extentOf now ≡ extent-is.Octets (length (encode (saidBy s d)))
-    extent-is-n =
-        ap extentOf now-is
-        ∙ reads (encode (saidBy s d) ++ drop n out) (length (encode (saidBy s d))) (good-written (saidBy s d) (drop n out) (wrote .sound))
-
-    read-inside : allInside (length now) (q .description) ≡ true
-    read-inside =
-        ap (λ (x : Reading). allInside (length now) (x .description)) (r .exact)
-        ∙ reading-inside now (length (encode (saidBy s d))) extent-is-n
+    same-description = read-same now (drop n out) now-is r
 
     -- and `write` of what was read, over what was read, into an output with room writes the same octets again
     pub same-octets : (out₂ now₂ : List ℕ) (r₂ : Written) → Writes now (q .description) out₂ r₂ now₂ → n ≤ length out₂
         → (r₂ ≡ Octets n) × (take n now₂ ≡ take n now)
-    unfolding writeOf keeps
-    same-octets out₂ now₂ r₂ w₂ h =
-        let x = encode (saidBy s d) in
-        let c = wrote .count in
-        let e : r₂ ≡ Octets n =
-        w₂ .exact ∙ rw (read-inside, said-same, wrote .sound, ← c, le-leb n 1500 (wrote .short), le-leb n (length out₂) h) in
-        let o : now₂ ≡ take n x ++ drop n out₂ =
-        w₂ .output ∙ ap₂ (λ (k : ℕ) (y : List ℕ). over k y out₂) (ap octetsWritten e) (ap encode said-same) in (
-          e,
-          ap (take n) (o ∙ ap (λ (l : List ℕ). l ++ drop n out₂) (take-all n x (omega (arith, c)))) ∙ take-at x (drop n out₂) n (sym c) ∙ sym front,
-        )
+    same-octets = again now (q .description) (read-inside now (drop n out) now-is r) (said-same now (drop n out) now-is r)
+
+  -- `read_frame` was called on these octets, behind any header that fits and with any padding
+  module _ (h t : List ℕ) (q : Reading) (l : length h ≡ 14) (o : frameOk h ≡ true) (m : length (take n now ++ t) ≤ 1500)
+      (r : ReadsFrame (h ++ (take n now ++ t)) q) where
+    abbrev lldpdu : List ℕ
+    lldpdu = drop 14 (h ++ (take n now ++ t))
+
+    behind : lldpdu ≡ encode (saidBy s d) ++ t
+    behind = drop-at h (take n now ++ t) 14 l ∙ ap (λ (x : List ℕ). x ++ t) front
+
+    read-behind : Reads lldpdu q
+    read-behind = frame-reads h (take n now ++ t) l o m r
+
+    pub same-frame : meant lldpdu q ≡ answered (saidBy s d)
+    same-frame = read-same lldpdu t behind read-behind
+
+    -- and `write` of what was read, over the octets behind the header, from which its parts count, writes the same octets again
+    pub same-octets-frame : (out₂ now₂ : List ℕ) (r₂ : Written) → Writes lldpdu (q .description) out₂ r₂ now₂ → n ≤ length out₂
+        → (r₂ ≡ Octets n) × (take n now₂ ≡ take n now)
+    same-octets-frame = again lldpdu (q .description) (read-inside lldpdu t behind read-behind) (said-same lldpdu t behind read-behind)

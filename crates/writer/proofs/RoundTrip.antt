@@ -23,7 +23,7 @@ use Rattle.lldpdu.proofs.ExtentLaws.{Good, reads, port-length}
 use Rattle.walk.specs.declared.Head.the-variants.{Whole}
 use Rattle.walk.specs.declared.Extent.the-variants.{Octets}
 use Rattle.found.specs.Contents.{contents, wellFormed, htipOf, tlvsIn}
-use Rattle.reading.specs.Meaning.{Said, saidIn, Answer, refused, answerOf}
+use Rattle.reading.specs.Meaning.{Said, saidIn, ReaderAnswer, refusedAnswer, answerOf}
 use Rattle.reader.specs.Frame.{frameOk, onFrame}
 use Rattle.reader.proofs.Agree.{frame-agrees}
 use Rattle.tlvs.specs.Tlvs.{written, octetsOf, chassisTlv, portTlv, secondsTlv, endTlv, wordsTlv, deviceTlv, unlessEmpty, ifLinked, ifListed}
@@ -338,7 +338,7 @@ module _ (d : Said) (t : List ℕ) where
 -- The theorem
 
 -- what is answered of a description that was written: it is valid, has its own length, and HTIP exactly with seconds above 0
-abbrev pub answered : Said → Answer
+abbrev pub answered : Said → ReaderAnswer
 answered d = record { refusal = 0; octets = length (encode d); htip = not (eqb (d .seconds) 0); said = d }
 
 pub read-back : (d : Said) (t : List ℕ) → soundOf d ≡ true → answerOf (encode d ++ t) ≡ answered d
@@ -353,9 +353,9 @@ read-back d t sound =
 
 -- behind every header that fits, with any padding, as long as the frame has at most 1,514 octets
 pub read-frame-back : (d : Said) (h t : List ℕ) → soundOf d ≡ true → length h ≡ 14 → frameOk h ≡ true → length (encode d ++ t) ≤ 1500
-    → onFrame (refused 3) answerOf (h ++ (encode d ++ t)) ≡ answered d
-read-frame-back d h t sound l o m = frame-agrees h (encode d ++ t) l o m (refused 3) answerOf ∙ read-back d t sound
+    → onFrame (refusedAnswer 3) answerOf (h ++ (encode d ++ t)) ≡ answered d
+read-frame-back d h t sound l o m = frame-agrees h (encode d ++ t) l o m (refusedAnswer 3) answerOf ∙ read-back d t sound
 
 -- and what was read, written again, gives the same octets
 pub write-again : (d : Said) (t : List ℕ) → soundOf d ≡ true → encode (answerOf (encode d ++ t) .said) ≡ encode d
-write-again d t sound = ap (λ (a : Answer). encode (a .said)) (read-back d t sound)
+write-again d t sound = ap (λ (a : ReaderAnswer). encode (a .said)) (read-back d t sound)

@@ -24,16 +24,16 @@ use Rattle.announcement.specs.Encode.{encode, countableOf}
 use Rattle.parts.specs.Inside.{allInside}
 use Rattle.description.specs.Rules.{linkSound, listSound, soundOf}
 use Rattle.description.proofs.RulesLaws.{kept, table, listed}
-use Rattle.writer.specs.Write.{refusalGiven, octetsWritten, keeps, writeOf, over, Writes}
+use Rattle.writer.specs.Write.{refusalOfWritten, octetsWritten, keeps, writeOf, over, Writes}
 use Rattle.writer.specs.declared.Written.{Written}
 use Rattle.writer.specs.declared.Written.the-variants.{Octets, Refused}
 
 -- n octets: the rules are kept, and n is the size
 passed : (a b t : Bool) (l n : ℕ) → pick (both (both a b) t) (pick t (Octets l) (Refused 10)) (Refused 9) ≡ Octets n → (b ≡ true) × (n ≡ l)
 passed true true true l n e = (refl, sym (ap octetsWritten e))
-passed true true false l n e = absurd (let z : _≡_ {A = ℕ} 9 0 = ap refusalGiven e in omega arith)
-passed true false t l n e = absurd (let z : _≡_ {A = ℕ} 9 0 = ap refusalGiven e in omega arith)
-passed false b t l n e = absurd (let z : _≡_ {A = ℕ} 9 0 = ap refusalGiven e in omega arith)
+passed true true false l n e = absurd (let z : _≡_ {A = ℕ} 9 0 = ap refusalOfWritten e in omega arith)
+passed true false t l n e = absurd (let z : _≡_ {A = ℕ} 9 0 = ap refusalOfWritten e in omega arith)
+passed false b t l n e = absurd (let z : _≡_ {A = ℕ} 9 0 = ap refusalOfWritten e in omega arith)
 
 -- the test that is left once 9 is decided
 abbrev inRoom : ℕ → Written → Written
@@ -159,20 +159,20 @@ module _ (s : List ℕ) (d : Description) (room : ℕ) where
   abbrev fits : Bool
   fits = both (keeps s d) (leb (length (encode (saidBy s d))) 1500)
 
-  pub nine : eqb (refusalGiven (writeOf s d room)) 9 ≡ not fits
+  pub nine : eqb (refusalOfWritten (writeOf s d room)) 9 ≡ not fits
   unfolding writeOf
   nine = go fits (leb (length (encode (saidBy s d))) room)
     where
-      go : (a b : Bool) → eqb (refusalGiven (pick a (pick b (Octets (length (encode (saidBy s d)))) (Refused 10)) (Refused 9))) 9 ≡ not a
+      go : (a b : Bool) → eqb (refusalOfWritten (pick a (pick b (Octets (length (encode (saidBy s d)))) (Refused 10)) (Refused 9))) 9 ≡ not a
       go true true = refl
       go true false = refl
       go false b = refl
 
-  pub ten : eqb (refusalGiven (writeOf s d room)) 10 ≡ both fits (not (leb (length (encode (saidBy s d))) room))
+  pub ten : eqb (refusalOfWritten (writeOf s d room)) 10 ≡ both fits (not (leb (length (encode (saidBy s d))) room))
   unfolding writeOf
   ten = go fits (leb (length (encode (saidBy s d))) room)
     where
-      go : (a b : Bool) → eqb (refusalGiven (pick a (pick b (Octets (length (encode (saidBy s d)))) (Refused 10)) (Refused 9))) 10 ≡ both a (not b)
+      go : (a b : Bool) → eqb (refusalOfWritten (pick a (pick b (Octets (length (encode (saidBy s d)))) (Refused 10)) (Refused 9))) 10 ≡ both a (not b)
       go true true = refl
       go true false = refl
       go false b = refl

@@ -16,9 +16,9 @@ use Rattle.writer.specs.declared.Written.{Written}
 use Rattle.writer.specs.declared.Written.the-variants.{Octets, Refused}
 
 -- the refusal number of an answer, 0 where it is none; the number of octets written, 0 where it is refused
-abbrev pub refusalGiven : Written → ℕ
-refusalGiven (Octets n) = 0
-refusalGiven (Refused n) = n
+abbrev pub refusalOfWritten : Written → ℕ
+refusalOfWritten (Octets n) = 0
+refusalOfWritten (Refused n) = n
 
 abbrev pub octetsWritten : Written → ℕ
 octetsWritten (Octets n) = n

@@ -1,11 +1,10 @@
 -- `announcement::put_fields` meets its contract: the fields one behind the other.
--- They are joined by laws of OutputLaws and EncodeLaws.
+-- The law is fields-put of EncodeLaws.
 use denote.Ref.{now}
 use borrow.Author.Needs.{needs}
-use Rattle.output.proofs.OutputLaws.{puts-then, puts-same}
 use Rattle.reading.specs.Meaning.{saidBy}
 use Rattle.announcement.specs.Encode.{countableOf}
-use Rattle.announcement.proofs.EncodeLaws.{fields-split}
+use Rattle.announcement.proofs.EncodeLaws.{fields-put}
 use Rattle.announcement.proofs.put_fields.Statement.{statement}
 use Rattle.announcement.proofs.put_fields.Tie as tie
 
@@ -44,14 +43,7 @@ returns c =
     let c7 = c6 .before .before .before .before in
     let c8 = c7 .before .before .before .before in
     let a = c8 .args in
-    puts-same _
-    (puts-then _ _ _ (c7 .put-words .ensures)
-    (puts-then _ _ _ (c6 .put-device .ensures)
-    (puts-then _ _ _ (c5 .put-device2 .ensures)
-    (puts-then _ _ _ (c4 .put-device3 .ensures)
-    (puts-then _ _ _ (c3 .put-device4 .ensures)
-    (puts-then _ _ _ (c2 .put-link .ensures) (c1 .put-list .ensures)))))))
-    (fields-split (countableOf (saidBy (now (a .text)) (a .d))))
+    fields-put (countableOf (saidBy (now (a .text)) (a .d))) _ (c7 .put-words .ensures) (c6 .put-device .ensures) (c5 .put-device2 .ensures) (c4 .put-device3 .ensures) (c3 .put-device4 .ensures) (c2 .put-link .ensures) (c1 .put-list .ensures)
 
 pub put-fields-spec : {M : Type 1} → statement M
 put-fields-spec =

@@ -1,11 +1,10 @@
 -- `announcement::put_lldpdu` meets its contract: the first three, the fields and End one behind the other.
--- They are joined by laws of OutputLaws and EncodeLaws.
+-- The law is encode-put of EncodeLaws.
 use denote.Ref.{now}
 use borrow.Author.Needs.{needs}
-use Rattle.output.proofs.OutputLaws.{puts-then, puts-same}
 use Rattle.reading.specs.Meaning.{saidBy}
 use Rattle.announcement.specs.Encode.{countableOf}
-use Rattle.announcement.proofs.EncodeLaws.{encode-split}
+use Rattle.announcement.proofs.EncodeLaws.{encode-put}
 use Rattle.announcement.proofs.put_lldpdu.Statement.{statement}
 use Rattle.announcement.proofs.put_lldpdu.Tie as tie
 
@@ -36,12 +35,7 @@ returns c =
     let c5 = c4 .before .before .before .before in
     let c6 = c5 .before .before .before .before .before in
     let a = c6 .args in
-    puts-same _
-    (puts-then _ _ _ (c5 .put-chassis .ensures)
-    (puts-then _ _ _ (c4 .put-port .ensures)
-    (puts-then _ _ _ (c3 .put-seconds .ensures)
-    (puts-then _ _ _ (c2 .put-fields .ensures) (c1 .put-head .ensures)))))
-    (encode-split (countableOf (saidBy (now (a .text)) (a .d))))
+    encode-put (countableOf (saidBy (now (a .text)) (a .d))) _ (c5 .put-chassis .ensures) (c4 .put-port .ensures) (c3 .put-seconds .ensures) (c2 .put-fields .ensures) (c1 .put-head .ensures)
 
 pub put-lldpdu-spec : {M : Type 1} → statement M
 put-lldpdu-spec =

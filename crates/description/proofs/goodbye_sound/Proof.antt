@@ -15,31 +15,31 @@ count-of-requires : tie.Need-count-of-requires
 count-of-requires c κs = search needs
 
 returns : tie.Need-returns
-returns c = sym (all-fails (goodbyeRules (saidBy (now (c .before .before .before .args .text)) (c .before .before .before .args .d))) 0 (rw (← c .before .count-of .ensures) (ne-eqb _ 0 (c .if1 .taken))))
+returns c = sym (all-fails (goodbyeRules (saidBy (now (c .before .before .before .args .text)) (c .before .before .before .args .d))) 0 (rw (← c .before .count-of .ensures) (ne-eqb (c .before .count-of .result) 0 (c .if1 .taken))))
 
 count-of-requires-2 : tie.Need-count-of-requires-2
 count-of-requires-2 c κs = search needs
 
 returns-2 : tie.Need-returns-2
-returns-2 c = sym (all-fails (goodbyeRules (saidBy (now (c .before .before .before .before .before .args .text)) (c .before .before .before .before .before .args .d))) 1 (rw (← c .before .count-of2 .ensures) (ne-eqb _ 0 (c .if2 .taken))))
+returns-2 c = sym (all-fails (goodbyeRules (saidBy (now (c .before .before .before .before .before .args .text)) (c .before .before .before .before .before .args .d))) 1 (rw (← c .before .count-of2 .ensures) (ne-eqb (c .before .count-of2 .result) 0 (c .if2 .taken))))
 
 count-of-requires-3 : tie.Need-count-of-requires-3
 count-of-requires-3 c κs = search needs
 
 returns-3 : tie.Need-returns-3
-returns-3 c = sym (all-fails (goodbyeRules (saidBy (now (c .before .before .before .before .before .before .before .args .text)) (c .before .before .before .before .before .before .before .args .d))) 2 (rw (← c .before .count-of3 .ensures) (ne-eqb _ 0 (c .if3 .taken))))
+returns-3 c = sym (all-fails (goodbyeRules (saidBy (now (c .before .before .before .before .before .before .before .args .text)) (c .before .before .before .before .before .before .before .args .d))) 2 (rw (← c .before .count-of3 .ensures) (ne-eqb (c .before .count-of3 .result) 0 (c .if3 .taken))))
 
 count-of-requires-4 : tie.Need-count-of-requires-4
 count-of-requires-4 c κs = search needs
 
 returns-4 : tie.Need-returns-4
-returns-4 c = sym (all-fails (goodbyeRules (saidBy (now (c .before .before .before .before .before .before .before .before .before .args .text)) (c .before .before .before .before .before .before .before .before .before .args .d))) 3 (rw (← c .before .count-of4 .ensures) (ne-eqb _ 0 (c .if4 .taken))))
+returns-4 c = sym (all-fails (goodbyeRules (saidBy (now (c .before .before .before .before .before .before .before .before .before .args .text)) (c .before .before .before .before .before .before .before .before .before .args .d))) 3 (rw (← c .before .count-of4 .ensures) (ne-eqb (c .before .count-of4 .result) 0 (c .if4 .taken))))
 
 count-of-requires-5 : tie.Need-count-of-requires-5
 count-of-requires-5 c κs = search needs
 
 returns-5 : tie.Need-returns-5
-returns-5 c = sym (all-fails (goodbyeRules (saidBy (now (c .before .before .before .before .before .before .before .before .before .before .before .args .text)) (c .before .before .before .before .before .before .before .before .before .before .before .args .d))) 4 (rw (← c .before .count-of5 .ensures) (ne-eqb _ 0 (c .if5 .taken))))
+returns-5 c = sym (all-fails (goodbyeRules (saidBy (now (c .before .before .before .before .before .before .before .before .before .before .before .args .text)) (c .before .before .before .before .before .before .before .before .before .before .before .args .d))) 4 (rw (← c .before .count-of5 .ensures) (ne-eqb (c .before .count-of5 .result) 0 (c .if5 .taken))))
 
 no-link-requires : tie.Need-no-link-requires
 no-link-requires c κs = search needs

@@ -12,10 +12,10 @@ live-sound-requires : tie.Need-live-sound-requires
 live-sound-requires c κs = search needs
 
 returns : tie.Need-returns
-returns c = rw (eq-eqb _ _ (c .before .if1 .taken)) (c .goodbye-sound .ensures)
+returns c = rw (eq-eqb (c .before .before .before .before .args .d .seconds) 0 (c .before .if1 .taken)) (c .goodbye-sound .ensures)
 
 returns-2 : tie.Need-returns-2
-returns-2 c = rw (ne-eqb _ _ (c .before .if1 .left)) (c .live-sound .ensures)
+returns-2 c = rw (ne-eqb (c .before .before .before .before .args .d .seconds) 0 (c .before .if1 .left)) (c .live-sound .ensures)
 
 pub is-timely-spec : {M : Type 1} → statement M
 is-timely-spec = tie.close (tie.spec goodbye-sound-requires live-sound-requires returns returns-2)

@@ -1,8 +1,10 @@
 -- `fields::address_list` meets its contract: one test, on the count that was read.
 -- The law is list-count of links.
+use Prim.Native.Nat.{_+_, _*_}
 use denote.Ref.{now}
 use borrow.Author.Tests.{eq-eqb, ne-eqb}
 use borrow.Author.Needs.{needs}
+use lib.ListN.{length}
 use Rattle.fields.specs.Field.{listOf}
 use Rattle.links.proofs.LinkLaws.{list-count}
 use Rattle.fields.proofs.address_list.Statement.{statement}
@@ -24,13 +26,13 @@ returns : tie.Need-returns
 unfolding listOf
 returns c =
     let b = now (c .before .before .before .args .part) in
-    rw (list-count b (c .before .octet .ensures), eq-eqb _ _ (c .if1 .taken))
+    rw (list-count b (c .before .octet .ensures), eq-eqb (length b) (5 + 6 * c .before .octet .result) (c .if1 .taken))
 
 returns-2 : tie.Need-returns-2
 unfolding listOf
 returns-2 c =
     let b = now (c .before .before .before .args .part) in
-    rw (list-count b (c .before .octet .ensures), ne-eqb _ _ (c .if1 .left))
+    rw (list-count b (c .before .octet .ensures), ne-eqb (length b) (5 + 6 * c .before .octet .result) (c .if1 .left))
 
 pub address-list-spec : {M : Type 1} → statement M
 address-list-spec = tie.close (tie.spec octet-requires cast-k mul-if1 add-if1 returns returns-2)

@@ -14,8 +14,7 @@ use Rattle.fields.proofs.device.Tie as tie
 
 returns : tie.Need-returns
 unfolding deviceOf
-returns c =
-    rw (lt-ltb _ _ (c .if1 .taken))
+returns c = rw (lt-ltb (length (now (c .before .before .args .part))) 5 (c .if1 .taken))
 
 octet-requires : tie.Need-octet-requires
 octet-requires c κs = search needs
@@ -66,7 +65,7 @@ returns-4 c =
     let b = now (c .before .before .before .before .before .before .before .before .before .before .before .args .part) in
     let s = c .before .before .before .before .before .before .before .octet2 .result in
     sym (device-at b (c .before .before .before .before .before .before .before .before .before .if1 .left) (c .before .before .before .before .before .before .wanted-of .ensures) (c .before .before .before .before .before .before .before .before .octet .ensures) (c .before .before .before .before .before .before .before .octet2 .ensures)
-    ∙ rw (c .before .before .before .before .most .given .1, eq-eqb (length b) (6 + s) (omega arith), le-leb 1 s (omega arith), lt-leb _ _ (c .if5 .taken)))
+    ∙ rw (c .before .before .before .before .most .given .1, eq-eqb (length b) (6 + s) (omega arith), le-leb 1 s (omega arith), lt-leb s _ (c .if5 .taken)))
 
 cast-t13 : tie.Need-cast-t13
 cast-t13 c = search needs
@@ -95,7 +94,7 @@ returns-8 c =
     let b = now (c .before .before .before .before .before .before .before .before .before .before .before .args .part) in
     let s = c .before .before .before .before .before .before .before .octet2 .result in
     sym (device-at b (c .before .before .before .before .before .before .before .before .before .if1 .left) (c .before .before .before .before .before .before .wanted-of .ensures) (c .before .before .before .before .before .before .before .before .octet .ensures) (c .before .before .before .before .before .before .before .octet2 .ensures)
-    ∙ rw (c .before .before .before .before .most .given .1, eq-eqb (length b) (6 + s) (omega arith), le-leb 1 s (omega arith), le-leb _ _ (c .if5 .left)))
+    ∙ rw (c .before .before .before .before .most .given .1, eq-eqb (length b) (6 + s) (omega arith), le-leb 1 s (omega arith), le-leb s _ (c .if5 .left)))
 
 pub device-spec : {M : Type 1} → statement M
 device-spec =

@@ -5,7 +5,7 @@ use mathlib.Core.Path.{_≡_, refl, sym, ap, _∙_}
 use native.Mathlib.Omega.{arith}
 use denote.Ref.{now}
 use borrow.Author.Needs.{needs}
-use lib.ListN.{length, drop}
+use lib.ListN.{length, take, drop}
 use Rattle.octets.proofs.PartLaws.{part-is}
 use Rattle.fields.specs.Field.{fieldOf}
 use Rattle.fields.specs.declared.Field.{Field}
@@ -63,7 +63,11 @@ note-requires : tie.Need-note-requires Inv-loop μ-loop
 note-requires c κs =
     let s = now (c .before .before .before .before .before .before .before .before .args .s) in
     let e = sym (c .before .before .before .before .before .step-at .ensures) ∙ c .before .before .before .kind .given .1 in
-    let field = c .field-of .ensures ∙ ap (fieldOf (c .before .before .before .kind .given .0 .0)) (part-is s (c .before .before .before .kind .given .0 .1 .0) (c .before .before .before .kind .given .0 .1 .1 .0)) in
+    let kind = c .before .before .before .kind .given .0 .0 in
+    let start = c .before .before .before .kind .given .0 .1 .0 in
+    let len = c .before .before .before .kind .given .0 .1 .1 .0 in
+    let said : c .field-of .result ≡ fieldOf kind (take (start + len - start) (drop start s)) = c .field-of .ensures in
+    let field = said ∙ ap (fieldOf kind) (part-is s start len) in
     (rw field (next-within s (c .before .before .before .before .before .before .loop .at) (c .before .before .before .before .before .before .loop .found) e), omega (arith, next-fits s (c .before .before .before .before .before .before .loop .at) e, c .before .before .before .before .before .before .before .before .good))
 
 loop-less : tie.Need-loop-less Inv-loop μ-loop

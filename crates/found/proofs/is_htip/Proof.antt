@@ -5,7 +5,7 @@ use native.Mathlib.Omega.{arith}
 use borrow.Author.Tests.{eq-eqb, ne-eqb, le-leb, lt-leb}
 use borrow.Author.Needs.{needs}
 use Rattle.tally.proofs.TestsLaws.{both-end}
-use Rattle.fields.specs.Field.{category}
+use Rattle.fields.specs.Field.{category, manufacturer, modelNumber}
 use Rattle.found.specs.Found.{markOf, htipIn}
 use Rattle.found.proofs.is_htip.Statement.{statement}
 use Rattle.found.proofs.is_htip.Tie as tie
@@ -19,28 +19,42 @@ element-copy-out-category c = search needs
 
 returns-2 : tie.Need-returns-2
 unfolding htipIn
-returns-2 c = rw (c .before .before .before .if1 .left, ne-eqb (markOf category (c .before .before .before .before .args .t1) .times) 1 (λ e. omega arith))
+returns-2 c =
+    let f = c .before .before .before .before .args .t1 in
+    rw (c .before .before .before .if1 .left, ne-eqb (markOf category f .times) 1 (λ e. omega arith))
 
 element-copy-out-number : tie.Need-element-copy-out-number
 element-copy-out-number c = search needs
 
 returns-3 : tie.Need-returns-3
 unfolding htipIn
-returns-3 c = rw (c .before .before .before .before .before .before .if1 .left, eq-eqb (markOf category (c .before .before .before .before .before .before .before .args .t1) .times) 1 (omega arith), ne-eqb _ _ (c .if3 .taken))
+returns-3 c =
+    let f = c .before .before .before .before .before .before .before .args .t1 in
+    rw (c .before .before .before .before .before .before .if1 .left, eq-eqb (markOf category f .times) 1 (omega arith), ne-eqb (markOf modelNumber f .times) 1 (λ e. omega arith))
 
 element-copy-out-manufacturer : tie.Need-element-copy-out-manufacturer
 element-copy-out-manufacturer c = search needs
 
 returns-4 : tie.Need-returns-4
 unfolding htipIn
-returns-4 c = rw (c .before .before .before .before .before .before .before .before .before .if1 .left, eq-eqb (markOf category (c .before .before .before .before .before .before .before .before .before .before .args .t1) .times) 1 (omega arith), eq-eqb _ _ (c .before .before .before .if3 .left), lt-leb _ _ (c .if4 .taken))
+returns-4 c =
+    let f = c .before .before .before .before .before .before .before .before .before .before .args .t1 in
+    rw (c .before .before .before .before .before .before .before .before .before .if1 .left, eq-eqb (markOf category f .times) 1 (omega arith), eq-eqb (markOf modelNumber f .times) 1 (omega arith), lt-leb (markOf manufacturer f .times) 1 (omega arith))
 
 element-copy-out-model : tie.Need-element-copy-out-model
 element-copy-out-model c = search needs
 
 returns-5 : tie.Need-returns-5
 unfolding htipIn
-returns-5 c = rw (c .before .before .before .before .before .before .before .before .before .before .before .if1 .left, eq-eqb (markOf category (c .before .before .before .before .before .before .before .before .before .before .before .before .args .t1) .times) 1 (omega arith), eq-eqb _ _ (c .before .before .before .before .before .if3 .left), le-leb _ _ (c .before .before .if4 .left)) (sym (both-end _))
+returns-5 c =
+    let f = c .before .before .before .before .before .before .before .before .before .before .before .before .args .t1 in
+    rw (
+      c .before .before .before .before .before .before .before .before .before .before .before .if1 .left,
+      eq-eqb (markOf category f .times) 1 (omega arith),
+      eq-eqb (markOf modelNumber f .times) 1 (omega arith),
+      le-leb (markOf manufacturer f .times) 1 (omega arith),
+    )
+    (sym (both-end _))
 
 pub is-htip-spec : {M : Type 1} → statement M
 is-htip-spec =

@@ -1,6 +1,7 @@
 -- `hearing::hear` meets its contract: the place that is found decides between a known and a new identity (saying-known, saying-new).
 -- The identity is that of the outline.
 use mathlib.Core.Path.{_∙_}
+use native.Mathlib.Omega.{arith}
 use borrow.Author.Needs.{needs}
 use Rattle.place.specs.State.{state}
 use Rattle.fitness.proofs.FitLaws.{fit-length}
@@ -17,7 +18,7 @@ place-of-requires c κs = fit-length _ (c .before .before .before .before .befor
 hear-known-requires : tie.Need-hear-known-requires
 hear-known-requires c κs =
     let o = c .before .before .before .before .before .before .before .before in
-    (c .before .if1 .taken, (fit-length _ (o .pre .0), o .pre .1 .1 .0))
+    (omega (arith, c .before .if1 .taken), (fit-length _ (o .pre .0), o .pre .1 .1 .0))
 
 same-length : tie.Need-same-length
 same-length c = search needs
@@ -28,7 +29,7 @@ returns c =
     let o = n .before .before .before .before .before .before in
     let a = o .args in
     c .before .before .hear-known .ensures
-    ∙ saying-known (a .p) (a .l .now) (state (a .t) (a .buffer .now)) (o .pre .1 .1 .1) (n .before .text-of .ensures) (n .place-of .ensures) (c .before .before .before .before .if1 .taken)
+    ∙ saying-known (a .p) (a .l .now) (state (a .t) (a .buffer .now)) (o .pre .1 .1 .1) (n .before .text-of .ensures) (n .place-of .ensures) (omega (arith, c .before .before .before .before .if1 .taken))
 
 hear-new-requires : tie.Need-hear-new-requires
 hear-new-requires c κs = search needs

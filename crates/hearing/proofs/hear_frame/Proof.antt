@@ -1,7 +1,8 @@
 -- `hearing::hear_frame` meets its contract: the reader's refusal, or what the LLDPDU says (unread-tells, saying-tells).
 -- The LLDPDU is cut out up to its End, so it has room in a place and says what the frame says.
-use mathlib.Core.Path.{refl, _∙_}
+use mathlib.Core.Path.{_≡_, refl, _∙_}
 use borrow.Author.Needs.{needs}
+use lib.ListN.{take, drop}
 use Rattle.place.specs.State.{state}
 use Rattle.hearing.proofs.ReplyLaws.{tells, unread-tells, frame-short, same-outline, saying-tells}
 use Rattle.hearing.proofs.hear_frame.Statement.{statement}
@@ -22,13 +23,17 @@ enum-known-extent-2 c = search needs
 text-of-requires : tie.Need-text-of-requires
 text-of-requires c κs = search needs
 
+-- what is heard stands behind the header and ends with its End (N3)
+cut : (c : tie.After-text-of) → c .text-of .result .now ≡ take (c .before .before .extent2 .given .0 .0) (drop 14 (c .before .before .before .before .before .before .before .args .frame .now))
+cut c = c .text-of .ensures
+
 hear-requires : tie.Need-hear-requires
 hear-requires c κs =
     let x = c .before .before .before in
     let r = x .before .before in
     let o = r .before .before .before in
     let f = o .args .frame .now in
-    let t = c .before .text-of .ensures in
+    let t = cut (c .before) in
     (o .pre .0, (o .pre .1, (frame-short f (r .outline-frame .ensures) (x .extent2 .given .1) t, same-outline f (r .outline-frame .ensures) (x .extent2 .given .1) t)))
 
 returns : tie.Need-returns
@@ -47,7 +52,7 @@ returns-2 c =
     let x = h .before .before .before .before in
     let r = x .before .before in
     let a = r .before .before .before .args in
-    h .hear .ensures ∙ saying-tells (a .frame .now) (r .outline-frame .ensures) (x .extent2 .given .1) (h .before .before .text-of .ensures) (a .p) (state (a .t) (a .buffer .now))
+    h .hear .ensures ∙ saying-tells (a .frame .now) (r .outline-frame .ensures) (x .extent2 .given .1) (cut (h .before .before)) (a .p) (state (a .t) (a .buffer .now))
 
 pub hear-frame-spec : {M : Type 1} → statement M
 hear-frame-spec =

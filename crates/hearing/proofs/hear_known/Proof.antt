@@ -1,9 +1,10 @@
 -- `hearing::hear_known` meets its contract: a goodbye frees the place (at-gone), any other announcement is kept in it (at-kept).
 -- There is such a place, and it has room (there-put); the rest of the table stays as it was.
-use mathlib.Core.Path.{_∙_}
+use mathlib.Core.Path.{_≡_, _∙_}
 use native.Mathlib.Omega.{arith}
 use borrow.Author.Needs.{needs}
-use Rattle.place.specs.State.{state, free, keep}
+use Rattle.rules.specs.declared.Reply.the-variants.{Refreshed, Gone}
+use Rattle.place.specs.State.{state, putThere, free, keep}
 use Rattle.place.proofs.ThereLaws.{there-put}
 use Rattle.hearing.proofs.ReplyLaws.{tells, at-gone, at-kept}
 use Rattle.hearing.proofs.hear_known.Statement.{statement}
@@ -23,8 +24,9 @@ returns c =
     let o = c .before .before .before .before .before .before .before .before in
     let a = o .args in
     let s = state (a .t) (a .buffer .now) in
-    let k = c .before .before .before .release .ensures ∙ there-put s (a .k) free (o .pre .0) (o .pre .1 .0) (omega arith) in
-    tells (c .reply-with .ensures) k ∙ at-gone (a .k) (a .p) (a .seconds) (a .l .now) s (c .before .before .before .before .before .if1 .taken)
+    let freed : _ ≡ putThere s (a .k) free = c .before .before .before .release .ensures in
+    let k = freed ∙ there-put s (a .k) free (o .pre .0) (o .pre .1 .0) (omega arith) in
+    tells {a = Gone} (c .reply-with .ensures) k ∙ at-gone (a .k) (a .p) (a .seconds) (a .l .now) s (c .before .before .before .before .before .if1 .taken)
 
 store-requires : tie.Need-store-requires
 store-requires c κs = search needs
@@ -41,8 +43,9 @@ returns-2 c =
     let o = c .before .before .before .before .before .before .before .before in
     let a = o .args in
     let s = state (a .t) (a .buffer .now) in
-    let k = c .before .before .before .store .ensures ∙ there-put s (a .k) (keep (a .p) (a .seconds) (a .l .now)) (o .pre .0) (o .pre .1 .0) (o .pre .1 .1) in
-    tells (c .reply-with2 .ensures) k ∙ at-kept (a .k) (a .p) (a .seconds) (a .l .now) s (c .before .before .before .before .before .if1 .left)
+    let kept : _ ≡ putThere s (a .k) (keep (a .p) (a .seconds) (a .l .now)) = c .before .before .before .store .ensures in
+    let k = kept ∙ there-put s (a .k) (keep (a .p) (a .seconds) (a .l .now)) (o .pre .0) (o .pre .1 .0) (o .pre .1 .1) in
+    tells {a = Refreshed} (c .reply-with2 .ensures) k ∙ at-kept (a .k) (a .p) (a .seconds) (a .l .now) s (c .before .before .before .before .before .if1 .left)
 
 pub hear-known-spec : {M : Type 1} → statement M
 hear-known-spec =

@@ -6,7 +6,7 @@ use mathlib.Core.Bool.{false}
 use native.Mathlib.Omega.{arith}
 use denote.Ref.{now}
 use borrow.Author.Needs.{needs}
-use Rattle.tally.specs.Ranges.{some}
+use Rattle.tally.specs.Ranges.{someBelow}
 use Rattle.tally.proofs.RangesLaws.{some-none, some-miss, some-hit}
 use Rattle.octets.specs.Address.{sixAt, sameOctets}
 use Rattle.links.proofs.LinkLaws.{names-counts}
@@ -14,7 +14,7 @@ use Rattle.links.proofs.names.Statement.{statement}
 use Rattle.links.proofs.names.Tie as tie
 
 abbrev Inv-loop : tie.InvT-loop
-Inv-loop part address n m k first i₀ i = (i ≤ k) × (some (λ j. sameOctets (sixAt part (first + 6 * j)) address) i ≡ false)
+Inv-loop part address n m k first i₀ i = (i ≤ k) × (someBelow (λ j. sameOctets (sixAt part (first + 6 * j)) address) i ≡ false)
 
 abbrev μ-loop : tie.MeasureT-loop
 μ-loop part address n m k first i₀ i = k - i

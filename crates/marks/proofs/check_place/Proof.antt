@@ -1,6 +1,6 @@
 -- `marks::check_place` meets its contract: the numbers decide whether a free or a used place is looked at.
 -- The octets of the place are cut once and handed on in parts; of a short buffer there are fewer (rest-whole).
-use mathlib.Core.Path.{ap, ap₂, _∙_}
+use mathlib.Core.Path.{_≡_, ap, ap₂, _∙_}
 use mathlib.Core.List.{List}
 use Prim.Native.Nat.{ℕ, _-_, _*_}
 use denote.Ref.{now}
@@ -55,14 +55,14 @@ returns-2 : tie.Need-returns-2
 unfolding at
 returns-2 c =
     let a = c .before .before .before .before .before .before .args in
-    place-port (at (state (a .t1) (now (a .buffer))) (a .i)) (c .before .if1 .left) (c .if2 .taken)
+    place-port (at (state (a .t1) (now (a .buffer))) (a .i)) (c .before .if1 .left) (search needs)
 
 returns-3 : tie.Need-returns-3
 unfolding at
 returns-3 c =
     let two = c .before in
     let a = two .before .before .before .before .before .before .args in
-    place-long (at (state (a .t1) (now (a .buffer))) (a .i)) (two .before .if1 .left) (two .if2 .left) (c .if3 .taken)
+    place-long (at (state (a .t1) (now (a .buffer))) (a .i)) (two .before .if1 .left) (c .if3 .taken)
 
 text-of-requires-2 : tie.Need-text-of-requires-2
 text-of-requires-2 c κs = search needs
@@ -90,9 +90,10 @@ returns-4 c =
     let a = read .before .before .args in
     let x = at (state (a .t1) (now (a .buffer))) (a .i) in
     let front = rest .before .text-of2 .ensures ∙ ap (take (x .len)) (read .text-of .ensures) in
-    let behind = rest .text-of3 .ensures ∙ ap (λ (y : List ℕ). take (size - x .len) (drop (x .len) y)) (read .text-of .ensures) in
+    let behind : now (rest .text-of3 .result) ≡ take (size - x .len) (drop (x .len) (now (read .text-of .result))) = rest .text-of3 .ensures in
+    let rest-is = behind ∙ ap (λ (y : List ℕ). take (size - x .len) (drop (x .len) y)) (read .text-of .ensures) in
     c .check-used .ensures
-    ∙ ap₂ (checkUsed (x .port) (x .seconds)) front (behind ∙ rest-whole (x .len) size (drop (a .i * size) (now (a .buffer))))
+    ∙ ap₂ (checkUsed (x .port) (x .seconds)) front (rest-is ∙ rest-whole (x .len) size (drop (a .i * size) (now (a .buffer))))
     ∙ place-used x (one .if1 .left) (two .if2 .left) (three .if3 .left)
 
 pub check-place-spec : {M : Type 1} → statement M

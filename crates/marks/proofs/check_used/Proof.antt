@@ -22,22 +22,20 @@ returns : tie.Need-returns
 returns c =
     let known = c .before .before in
     let read = known .before .before in
-    used-other _ _ _ _ (read .outline-lldpdu .ensures) (known .extent .given .1) (c .if1 .taken)
+    used-other _ _ _ _ (read .outline-lldpdu .ensures) (known .extent .given .1) (search needs)
 
 returns-2 : tie.Need-returns-2
 returns-2 c =
-    let one = c .before in
-    let known = one .before .before in
+    let known = c .before .before .before in
     let read = known .before .before in
-    used-over _ _ _ _ (read .outline-lldpdu .ensures) (known .extent .given .1) (one .if1 .left) (search needs)
+    used-over _ _ _ _ (read .outline-lldpdu .ensures) (known .extent .given .1) (search needs)
 
 returns-3 : tie.Need-returns-3
 returns-3 c =
-    let two = c .before .before in
-    let one = two .before in
-    let known = one .before .before in
+    let known = c .before .before .before .before .before in
     let read = known .before .before in
-    used-late _ _ _ _ (read .outline-lldpdu .ensures) (known .extent .given .1) (one .if1 .left) (two .if2 .left) (c .if3 .taken)
+    let a = read .before .before .before .args in
+    used-late (a .p) (a .left) (now (a .l)) (now (a .rest)) (read .outline-lldpdu .ensures) (known .extent .given .1) (c .if3 .taken)
 
 all-zero-requires : tie.Need-all-zero-requires
 all-zero-requires c κs = search needs
@@ -45,13 +43,14 @@ all-zero-requires c κs = search needs
 text-of-requires : tie.Need-text-of-requires
 text-of-requires c κs = search needs
 
-mark-of-requires : tie.Need-mark-of-requires
-mark-of-requires c κs = search needs
+identity-mark-requires : tie.Need-identity-mark-requires
+identity-mark-requires c κs = search needs
 
 returns-4 : tie.Need-returns-4
 returns-4 c =
     let read = c .before .before in
-    used-refused _ _ _ _ (read .outline-lldpdu .ensures) (c .enum-told .given .1)
+    let a = read .before .before .before .args in
+    used-refused (a .p) (a .left) (now (a .l)) (now (a .rest)) (read .outline-lldpdu .ensures) (c .enum-told .given .1)
 
 -- the tests that led to the last two returns
 abbrev start : tie.Else3 → tie.Start
@@ -63,14 +62,15 @@ passed c =
     let one = two .before in
     let known = one .before .before in
     let read = known .before .before in
-    in-time (start c .args .p) _ _ (now (start c .args .rest)) (read .outline-lldpdu .ensures) (known .extent .given .1) (one .if1 .left) (two .if2 .left) (c .if3 .left)
+    let a = start c .args in
+    in-time (a .p) (a .left) (now (a .l)) (now (a .rest)) (read .outline-lldpdu .ensures) (known .extent .given .1) (one .if1 .left) (two .if2 .left) (c .if3 .left)
 
 returns-5 : tie.Need-returns-5
 returns-5 c =
     let four = c .before .before .before in
     let zero = four .before in
     let read = zero .before .before .before .before .before .before .before .before in
-    used-fit _ _ _ _ (read .outline-lldpdu .ensures) (passed (zero .before)) (sym (zero .all-zero .ensures) ∙ four .if4 .taken) (c .mark-of .ensures) (c .before .text-of .ensures)
+    used-fit _ _ _ _ (read .outline-lldpdu .ensures) (passed (zero .before)) (sym (zero .all-zero .ensures) ∙ four .if4 .taken) (c .identity-mark .ensures) (c .before .text-of .ensures)
 
 returns-6 : tie.Need-returns-6
 returns-6 c =
@@ -90,7 +90,7 @@ check-used-spec =
     returns-3
     all-zero-requires
     text-of-requires
-    mark-of-requires
+    identity-mark-requires
     returns-4
     returns-5
     returns-6)

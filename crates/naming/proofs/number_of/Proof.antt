@@ -1,5 +1,6 @@
 -- `naming::number_of` meets its contract: at most four octets, so all of them count.
 -- Nothing more is needed.
+use mathlib.Core.Path.{refl}
 use denote.Ref.{now}
 use borrow.Author.Needs.{needs}
 use lib.Seq.{take-all}
@@ -10,7 +11,7 @@ value-of-requires : tie.Need-value-of-requires
 value-of-requires c κs = search needs
 
 returns : tie.Need-returns
-returns c = rw (c .value-of .ensures, take-all 4 (now (c .before .before .args .part)) (c .before .before .pre))
+returns c = rw (c .value-of .ensures, take-all 4 (now (c .before .before .args .part)) (c .before .before .pre)) refl
 
 pub number-of-spec : {M : Type 1} → statement M
 number-of-spec = tie.close (tie.spec value-of-requires returns)

@@ -1,11 +1,11 @@
 -- `naming::numbers_of` meets its contract: the two numbers are cut out at the counts that were read.
 -- The laws are counts-short and numbers-at of NamingLaws.
-use Prim.Native.Nat.{_+_}
-use mathlib.Core.Path.{ap, ap₂, _∙_}
+use Prim.Native.Nat.{_+_, _-_}
+use mathlib.Core.Path.{_≡_, ap, ap₂, _∙_}
 use native.Mathlib.Omega.{arith}
 use denote.Ref.{now}
 use borrow.Author.Needs.{needs}
-use lib.ListN.{length-take}
+use lib.ListN.{take, drop, length-take}
 use Rattle.octets.proofs.PartLaws.{part-is}
 use Rattle.naming.specs.Naming.{numberIn}
 use Rattle.naming.specs.declared.Naming.the-variants.{Link}
@@ -65,7 +65,10 @@ number-of-requires-2 c κs =
 returns : tie.Need-returns
 returns c =
     let b = now (c .before .before .before .before .before .before .before .args .part) in
-    ap₂ Link (c .before .before .number-of .ensures ∙ ap numberIn (part-is b 5 (c .before .before .before .before .before .octet .result))) (c .number-of2 .ensures ∙ ap numberIn (part-is b (6 + c .before .before .before .before .before .octet .result) (c .before .before .before .before .octet2 .result)))
+    let n = c .before .before .before .before .before .octet .result in
+    let m = c .before .before .before .before .octet2 .result in
+    let port : c .number-of2 .result ≡ numberIn (take (6 + n + m - (6 + n)) (drop (6 + n) b)) = c .number-of2 .ensures in
+    ap₂ Link (c .before .before .number-of .ensures ∙ ap numberIn (part-is b 5 n)) (port ∙ ap numberIn (part-is b (6 + n) m))
     ∙ numbers-at b (c .before .before .before .before .before .octet .ensures) (c .before .before .before .before .octet2 .ensures)
 
 pub numbers-of-spec : {M : Type 1} → statement M

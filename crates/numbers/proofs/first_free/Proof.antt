@@ -5,6 +5,7 @@ use mathlib.Core.Path.{_≡_, refl, sym, _∙_}
 use native.Mathlib.Omega.{arith}
 use borrow.Author.Needs.{needs}
 use borrow.Author.Tests.{eq-eqb, ne-eqb}
+use lib.ListN.{getD}
 use Rattle.tally.specs.Counts.{firstFrom}
 use Rattle.tally.proofs.CountsLaws.{first-hit, first-miss, first-end}
 use Rattle.numbers.specs.Sizes.{places}
@@ -31,7 +32,8 @@ element-copy-out-if1 c = search needs
 returns : tie.Need-returns Inv-loop μ-loop
 returns c =
     let l = c .before .before .before in
-    sym (l .loop .inv .1 ∙ first-hit _ (l .loop .i) places (search needs) (eq-eqb _ _ (c .if1 .taken)))
+    let length = getD (l .before .args .t1 .length) (l .loop .i) 0 in
+    sym (l .loop .inv .1 ∙ first-hit _ (l .loop .i) places (search needs) (eq-eqb length 0 (c .if1 .taken)))
 
 add-i : tie.Need-add-i Inv-loop μ-loop
 add-i c = search needs
@@ -42,7 +44,8 @@ loop-less c = search needs
 loop-again : tie.Need-loop-again Inv-loop μ-loop
 loop-again c =
     let l = c .before .before .before in
-    (search needs, l .loop .inv .1 ∙ first-miss _ (l .loop .i) places (search needs) (ne-eqb _ _ (c .if1 .left)))
+    let length = getD (l .before .args .t1 .length) (l .loop .i) 0 in
+    (search needs, l .loop .inv .1 ∙ first-miss _ (l .loop .i) places (search needs) (ne-eqb length 0 (c .if1 .left)))
 
 returns-2 : tie.Need-returns-2 Inv-loop μ-loop
 returns-2 c = sym (c .before .loop .inv .1 ∙ first-end _ (c .before .loop .i) places (omega arith))

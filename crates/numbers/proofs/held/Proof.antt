@@ -1,12 +1,13 @@
 -- `numbers::held` meets its contract: after i turns n counts the used places of the port below i.
 -- The count is at most the number of places (count-le), so it fits.
-use Prim.Native.Nat.{ℕ, _+_, _-_, _≤_}
+use Prim.Native.Nat.{ℕ, _+_, _-_, _≤_, _<_}
 use mathlib.Core.Path.{_≡_, ap, sym, _∙_}
 use mathlib.Core.Logic.{⊎-elim}
 use mathlib.Core.Bool.{true, false}
 use native.Mathlib.Omega.{arith}
 use borrow.Author.Needs.{needs}
 use borrow.Author.Tests.{eq-eqb, ne-eqb}
+use lib.ListN.{getD}
 use Rattle.tally.specs.Counts.{count}
 use Rattle.tally.proofs.CountsLaws.{count-none, count-step, count-le}
 use Rattle.numbers.specs.Sizes.{places}
@@ -22,6 +23,10 @@ abbrev μ-loop : tie.MeasureT-loop
 
 loop-holds : tie.Need-loop-holds Inv-loop μ-loop
 loop-holds c = (search needs, sym (count-none _))
+
+-- no turn looks past the last place (N1)
+is-place : (c : tie.In-loop Inv-loop μ-loop) → c .before .loop .i < places
+is-place c = c .loop-test .taken
 
 mul-if1 : tie.Need-mul-if1 Inv-loop μ-loop
 mul-if1 c = search needs
@@ -44,19 +49,22 @@ add-i : tie.Need-add-i Inv-loop μ-loop
 add-i c = search needs
 
 loop-less : tie.Need-loop-less Inv-loop μ-loop
-loop-less c = search needs
+loop-less c = omega (arith, is-place (c .before .before))
 
 loop-again : tie.Need-loop-again Inv-loop μ-loop
 loop-again c =
     let l = c .before .before .before in
-    let more = count-step (usedBy (l .before .args .t1) (l .before .args .p)) (l .loop .i) in
+    let a = l .before .args in
+    let length = getD (a .t1 .length) (l .loop .i) 0 in
+    let port = getD (a .t1 .port) (l .loop .i) 0 in
+    let more = count-step (usedBy (a .t1) (a .p)) (l .loop .i) in
     let was = l .loop .inv .1 in (
       search needs,
       ⊎-elim
-          (λ w. w .3 ∙ ap (λ (x : ℕ). x + 1) was ∙ sym (more true (simp (ne-eqb _ _ (w .0 .taken), eq-eqb _ _ (w .2 .taken)))))
+          (λ w. w .3 ∙ ap (λ (x : ℕ). x + 1) was ∙ sym (more true (simp (ne-eqb length 0 (w .0 .taken), eq-eqb port (a .p) (w .2 .taken)))))
           (⊎-elim
-          (λ w. omega (arith, w .3, was, more false (simp (ne-eqb _ _ (w .0 .taken), ne-eqb _ _ (w .2 .left)))))
-          (λ w. omega (arith, w .1, was, more false (simp (eq-eqb _ _ (w .0 .left))))))
+          (λ w. omega (arith, w .3, was, more false (simp (ne-eqb length 0 (w .0 .taken), ne-eqb port (a .p) (w .2 .left)))))
+          (λ w. omega (arith, w .1, was, more false (simp (eq-eqb length 0 (w .0 .left))))))
           (c .if1 .came),
     )
 

@@ -5,9 +5,9 @@ use mathlib.Core.List.{List}
 use Prim.Native.Nat.{ℕ}
 use denote.Ref.{now}
 use borrow.Author.Needs.{needs}
-use Rattle.place.specs.State.{at, state, says}
+use Rattle.place.specs.State.{at, state, isFrom}
 use Rattle.place.proofs.ThereLaws.{past-free}
-use Rattle.place.proofs.WhoseLaws.{of-free, of-other, of-says}
+use Rattle.place.proofs.WhoseLaws.{of-free, of-other, of-from}
 use Rattle.place.proofs.is_of.Statement.{statement}
 use Rattle.place.proofs.is_of.Tie as tie
 
@@ -41,8 +41,8 @@ returns-3 c =
 lldpdu-at-requires : tie.Need-lldpdu-at-requires
 lldpdu-at-requires c κs = search needs
 
-says-so-requires : tie.Need-says-so-requires
-says-so-requires c κs = search needs
+is-from-requires : tie.Need-is-from-requires
+is-from-requires c κs = search needs
 
 returns-4 : tie.Need-returns-4
 unfolding at
@@ -50,9 +50,9 @@ returns-4 c =
     let three = c .before .before in
     let two = three .before .before in
     let a = two .before .before .before .before .before .args in
-    c .says-so .ensures
-    ∙ ap (λ (l : List ℕ). says l (a .chassis) (a .subtype) (now (a .id))) (c .before .lldpdu-at .ensures)
-    ∙ of-says (state (a .t1) (now (a .buffer))) (a .p) (a .chassis) (a .subtype) (now (a .id)) (a .i) (two .if2 .left) (three .if3 .left)
+    c .is-from .ensures
+    ∙ ap (λ (l : List ℕ). isFrom l (a .chassis) (a .subtype) (now (a .id))) (c .before .lldpdu-at .ensures)
+    ∙ of-from (state (a .t1) (now (a .buffer))) (a .p) (a .chassis) (a .subtype) (now (a .id)) (a .i) (two .if2 .left) (three .if3 .left)
 
 pub is-of-spec : {M : Type 1} → statement M
 is-of-spec =
@@ -65,5 +65,5 @@ is-of-spec =
     element-copy-out-if3
     returns-3
     lldpdu-at-requires
-    says-so-requires
+    is-from-requires
     returns-4)

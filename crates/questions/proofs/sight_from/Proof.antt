@@ -19,8 +19,8 @@ abbrev μ-loop : tie.MeasureT-loop
 loop-holds : tie.Need-loop-holds Inv-loop μ-loop
 loop-holds c = refl
 
-naming-at-requires : tie.Need-naming-at-requires Inv-loop μ-loop
-naming-at-requires c κs = search needs
+naming-in-place-requires : tie.Need-naming-in-place-requires Inv-loop μ-loop
+naming-in-place-requires c κs = search needs
 
 enum-known-named : tie.Need-enum-known-named Inv-loop μ-loop
 enum-known-named c = search needs
@@ -30,7 +30,7 @@ returns c =
     let n = c .before .before .before in
     let l = n .before .before in
     let a = l .before .before .args in
-    sym (l .loop .inv ∙ sight-step (state (a .t) (a .buffer .now)) (a .address) (l .loop .i) places (search needs) (sym (n .naming-at .ensures) ∙ c .before .named .given .1))
+    sym (l .loop .inv ∙ sight-step (state (a .t) (a .buffer .now)) (a .address) (l .loop .i) places (search needs) (sym (n .naming-in-place .ensures) ∙ c .before .named .given .1))
 
 add-i : tie.Need-add-i Inv-loop μ-loop
 add-i c = search needs
@@ -43,7 +43,7 @@ loop-again c =
     let n = c .before in
     let l = n .before .before in
     let a = l .before .before .args in
-    l .loop .inv ∙ sight-step (state (a .t) (a .buffer .now)) (a .address) (l .loop .i) places (search needs) (sym (n .naming-at .ensures)) ∙ passed-over (n .naming-at .result) (l .loop .i) _ (c .match .keys2)
+    l .loop .inv ∙ sight-step (state (a .t) (a .buffer .now)) (a .address) (l .loop .i) places (search needs) (sym (n .naming-in-place .ensures)) ∙ passed-over (n .naming-in-place .result) (l .loop .i) _ (c .match .keys2)
 
 returns-2 : tie.Need-returns-2 Inv-loop μ-loop
 returns-2 c =
@@ -58,7 +58,7 @@ sight-from-spec =
     Inv-loop
     μ-loop
     loop-holds
-    naming-at-requires
+    naming-in-place-requires
     enum-known-named
     returns
     add-i

@@ -1,9 +1,17 @@
 -- `reading::description_at` meets its contract: each field by what its own function ensures.
 -- Nothing more is needed.
-use mathlib.Core.Path.{refl}
+use Prim.Native.Nat.{ℕ}
+use mathlib.Core.Path.{_≡_, refl}
+use mathlib.Core.List.{List}
+use denote.Ref.{now}
 use borrow.Author.Needs.{needs}
+use lib.ListN.{getD}
 use Rattle.reading.proofs.description_at.Statement.{statement}
 use Rattle.reading.proofs.description_at.Tie as tie
+
+-- the subtype's place with its number, so that a wrong one shows
+subtype-at : (s : List ℕ) {x : ℕ} → x ≡ getD s 11 0 → x ≡ getD s 11 0
+subtype-at s e = e
 
 six-requires : tie.Need-six-requires
 six-requires c κs = search needs
@@ -75,7 +83,7 @@ returns : tie.Need-returns
 returns c =
     rw (
       c .before .before .before .before .before .before .before .before .before .before .before .before .before .before .before .before .before .before .six .ensures,
-      c .before .before .before .before .before .before .before .before .before .before .before .before .before .before .before .before .before .octet .ensures,
+      subtype-at (now (c .before .before .before .before .before .before .before .before .before .before .before .before .before .before .before .before .before .before .before .before .args .s)) (c .before .before .before .before .before .before .before .before .before .before .before .before .before .before .before .before .before .octet .ensures),
       c .before .before .before .before .before .before .before .before .before .before .before .before .before .before .pair .ensures,
       c .before .before .before .before .before .before .before .before .before .before .before .before .before .before .before .before .octet2 .ensures,
       c .before .before .before .before .before .before .before .before .before .before .before .before .before .before .before .octet3 .ensures,

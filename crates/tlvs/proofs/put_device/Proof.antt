@@ -1,12 +1,15 @@
 -- `tlvs::put_device` meets its contract: nothing, or header, ID, s and string.
 -- Two tests decide; what is left has at most 255 octets, so s is an octet.
+use Prim.Native.Nat.{_+_}
 use mathlib.Core.Path.{refl, _∙_}
 use native.Mathlib.Omega.{arith}
 use denote.Ref.{now}
 use borrow.Author.Needs.{needs}
+use lib.ListN.{length}
+use Rattle.output.specs.Output.{outputAt}
 use Rattle.output.proofs.OutputLaws.{puts-none, puts-one, puts-then, puts-same}
 use Rattle.tlvs.specs.Tlvs.{deviceTlv}
-use Rattle.tlvs.proofs.TlvLaws.{none-octets, some-octets, device-written, countable-is, countable-none}
+use Rattle.tlvs.proofs.TlvLaws.{ttcHead, none-octets, some-octets, device-written, countable-is, countable-none}
 use Rattle.tlvs.proofs.put_device.Statement.{statement}
 use Rattle.tlvs.proofs.put_device.Tie as tie
 
@@ -54,7 +57,8 @@ returns-3 c =
     let c7 = c6 .before .before .before in
     let id = c7 .args .id in
     let string = c6 .text-of in
-    puts-same _ (puts-then _ _ _ (c3 .put-ttc .ensures) (puts-then _ _ _ (puts-one _ _ (c2 .put-octet .ensures)) (c1 .put-counted .ensures)))
+    puts-same _
+    (puts-then (ttcHead 1 (6 + length (now (string .result)))) _ (outputAt (now (c7 .args .out)) (c7 .args .at)) (c3 .put-ttc .ensures) (puts-then _ _ _ (puts-one _ _ (c2 .put-octet .ensures)) (c1 .put-counted .ensures)))
     (device-written id (now (string .result)) ∙ some-octets (deviceTlv id) (countable-is (string .ensures) (c4 .if2 .left)) (c5 .if1 .left))
 
 pub put-device-spec : {M : Type 1} → statement M

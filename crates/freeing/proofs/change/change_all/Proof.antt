@@ -1,5 +1,5 @@
 -- `freeing::change_all` meets its contract: after i turns the state is that of `each` below i.
--- One turn is one step (each-more), and the buffer keeps its length.
+-- One turn is one change (each-more), and the buffer keeps its length.
 use Prim.Native.Nat.{_-_, _≤_}
 use mathlib.Core.Path.{_≡_, sym, _∙_}
 use native.Mathlib.Omega.{arith}

@@ -1,5 +1,5 @@
 -- `freeing::change_at` meets its contract: each case of the enum is one call.
--- What the callee ensures is the step of that case.
+-- What the callee ensures is the change of that case.
 use borrow.Author.Needs.{needs}
 use Rattle.freeing.proofs.change.change_at.Statement.{statement}
 use Rattle.freeing.proofs.change.change_at.Tie as tie

@@ -1,11 +1,11 @@
 -- `freeing::lose_at` meets its contract: each return is one of the three things that a lost link does to a place (lost-free, lost-other, lost-gone).
--- The step at that place follows (step-stays, step-puts); there is such a place (there-put).
+-- The change at that place follows (change-stays, change-puts); there is such a place (there-put).
 use mathlib.Core.Path.{_∙_}
 use native.Mathlib.Omega.{arith}
 use borrow.Author.Needs.{needs}
 use Rattle.place.specs.State.{state, at, free}
 use Rattle.freeing.specs.Changes.{lost}
-use Rattle.place.proofs.PlaceLaws.{step-stays, step-puts}
+use Rattle.place.proofs.PlaceLaws.{change-stays, change-puts}
 use Rattle.place.proofs.ThereLaws.{there-put}
 use Rattle.freeing.proofs.ChangeLaws.{lost-free, lost-other, lost-gone}
 use Rattle.freeing.proofs.change.lose_at.Statement.{statement}
@@ -22,7 +22,7 @@ unfolding at
 returns c =
     let a = c .before .before .before .args in
     let s = state (a .t1) (a .buffer .now) in
-    step-stays (lost (a .p)) (a .i) s (lost-free (a .p) (at s (a .i)) (c .if1 .taken))
+    change-stays (lost (a .p)) (a .i) s (lost-free (a .p) (at s (a .i)) (c .if1 .taken))
 
 element-copy-out-if2 : tie.Need-element-copy-out-if2
 element-copy-out-if2 c = search needs
@@ -32,7 +32,7 @@ unfolding at
 returns-2 c =
     let a = c .before .before .before .before .before .args in
     let s = state (a .t1) (a .buffer .now) in
-    step-stays (lost (a .p)) (a .i) s (lost-other (a .p) (at s (a .i)) (search needs) (c .if2 .taken))
+    change-stays (lost (a .p)) (a .i) s (lost-other (a .p) (at s (a .i)) (search needs) (c .if2 .taken))
 
 release-requires : tie.Need-release-requires
 release-requires c κs = search needs
@@ -47,7 +47,7 @@ returns-3 c =
     let a = o .args in
     let s = state (a .t1) (a .buffer .now) in
     let k = c .before .before .release .ensures ∙ there-put s (a .i) free (o .pre .0) (o .pre .1) (omega arith) in
-    step-puts (lost (a .p)) (a .i) s k (lost-gone (a .p) (at s (a .i)) (search needs) (search needs))
+    change-puts (lost (a .p)) (a .i) s k (lost-gone (a .p) (at s (a .i)) (search needs) (search needs))
 
 pub lose-at-spec : {M : Type 1} → statement M
 lose-at-spec =

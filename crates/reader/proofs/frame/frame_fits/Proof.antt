@@ -1,7 +1,7 @@
 -- `reader::frame::frame_fits` meets its contract: length, type and destination, front to back.
 -- Each return cites the tests that led to it.
 use Prim.Native.Nat.{ℕ}
-use mathlib.Core.Path.{sym, ap, _∙_}
+use mathlib.Core.Path.{_≡_, sym, ap, _∙_}
 use mathlib.Core.List.{List}
 use denote.Ref.{now}
 use borrow.Author.Tests.{eq-eqb, ne-eqb, le-leb, lt-leb}
@@ -54,12 +54,13 @@ returns-5 : tie.Need-returns-5
 unfolding frameOk
 returns-5 c =
     let f = now (c .before .before .before .before .before .before .before .before .before .before .args .f) in
+    let asked : c .before .same-six .result ≡ sameOctets (c .before .before .six .result) everyone = c .before .same-six .ensures in
     rw (
       le-leb 14 _ (c .before .before .before .before .before .before .before .before .if1 .left),
       le-leb _ 1514 (c .before .before .before .before .before .before .before .if2 .left),
       eq-eqb (getD f 12 0) 0x88 (sym (c .before .before .before .before .before .before .octet .ensures) ∙ c .before .before .before .before .before .if3 .left),
       eq-eqb (getD f 13 0) 0xCC (sym (c .before .before .before .before .octet2 .ensures) ∙ c .before .before .before .if4 .left),
-      ap (λ (a : List ℕ). sameOctets a everyone) (sym (c .before .before .six .ensures)) ∙ sym (c .before .same-six .ensures) ∙ c .if5 .taken,
+      ap (λ (a : List ℕ). sameOctets a everyone) (sym (c .before .before .six .ensures)) ∙ sym asked ∙ c .if5 .taken,
     )
 
 six-requires-2 : tie.Need-six-requires-2
@@ -72,6 +73,7 @@ returns-6 : tie.Need-returns-6
 unfolding frameOk
 returns-6 c =
     let f = now (c .before .before .before .before .before .before .before .before .before .before .before .before .args .f) in
+    let asked : c .same-six2 .result ≡ sameOctets (c .before .six2 .result) nearest = c .same-six2 .ensures in
     rw (
       le-leb 14 _ (c .before .before .before .before .before .before .before .before .before .before .if1 .left),
       le-leb _ 1514 (c .before .before .before .before .before .before .before .before .before .if2 .left),
@@ -79,7 +81,7 @@ returns-6 c =
       eq-eqb (getD f 13 0) 0xCC (sym (c .before .before .before .before .before .before .octet2 .ensures) ∙ c .before .before .before .before .before .if4 .left),
       ap (λ (a : List ℕ). sameOctets a everyone) (sym (c .before .before .before .before .six .ensures)) ∙ sym (c .before .before .before .same-six .ensures) ∙ c .before .before .if5 .left,
     )
-    (c .same-six2 .ensures ∙ ap (λ (a : List ℕ). sameOctets a nearest) (c .before .six2 .ensures) ∙ sym (both-end _))
+    (asked ∙ ap (λ (a : List ℕ). sameOctets a nearest) (c .before .six2 .ensures) ∙ sym (both-end _))
 
 pub frame-fits-spec : {M : Type 1} → statement M
 frame-fits-spec =

@@ -1,9 +1,11 @@
 -- `reader::frame::read_frame` meets its contract: refusal 3, or the reading of the octets from 14 on.
 -- The laws are on-good, on-bad and frame-exactly of FrameLaws.
-use mathlib.Core.Path.{sym, ap, _∙_}
+use Prim.Native.Nat.{_-_}
+use mathlib.Core.Path.{_≡_, sym, ap, _∙_}
 use native.Mathlib.Omega.{arith}
 use denote.Ref.{now}
 use borrow.Author.Needs.{needs}
+use lib.ListN.{length, take, drop}
 use Rattle.octets.proofs.PartLaws.{part-from}
 use Rattle.reading.specs.Reading.{readingOf}
 use Rattle.reader.proofs.FrameLaws.{frame-size, on-good, on-bad, frame-exactly}
@@ -31,7 +33,8 @@ refused-reading-requires c κs = search needs
 returns : tie.Need-returns
 returns c =
     let f = now (c .before .before .before .before .before .args .f) in
-    frame-exactly f (c .read-lldpdu .ensures .exact ∙ ap readingOf (part-from f 14) ∙ sym (on-good _ readingOf f (sym (c .before .before .before .frame-fits .ensures) ∙ c .before .before .if1 .taken)))
+    let behind : c .read-lldpdu .result ≡ readingOf (take (length f - 14) (drop 14 f)) = c .read-lldpdu .ensures .exact in
+    frame-exactly f (behind ∙ ap readingOf (part-from f 14) ∙ sym (on-good _ readingOf f (sym (c .before .before .before .frame-fits .ensures) ∙ c .before .before .if1 .taken)))
 
 returns-2 : tie.Need-returns-2
 returns-2 c =
