@@ -13,8 +13,8 @@ use Rattle.tally.proofs.TestsLaws.{both-end, held}
 use Rattle.whole.specs.Whole.{zeros, filled}
 use Rattle.whole.proofs.WholeLaws.{zeros-replicate, filled-front, filled-length}
 use Rattle.lldpdu.specs.Extent.{extentOf}
-use Rattle.lldpdu.specs.Outline.{outlineAt, outlineOf}
-use Rattle.lldpdu.proofs.ExtentLaws.{good}
+use Rattle.lldpdu.specs.Outline.{outlineOf}
+use Rattle.lldpdu.proofs.ExtentLaws.{good, outline-extent}
 use Rattle.lldpdu.proofs.Stable.{sized, extent-stable, outline-stable}
 use Rattle.walk.specs.declared.Extent.{Extent}
 use Rattle.walk.specs.declared.Extent.the-variants.{Refused, Octets}
@@ -28,14 +28,6 @@ pub record Whole (l : List ℕ) (left : ℕ) : Type 0 where
   pub extent : extentOf l ≡ Octets (length l)
   pub least : 1 ≤ left
   pub most : left ≤ outlineOf l .seconds
-
-pub outline-extent : (l : List ℕ) → outlineOf l .extent ≡ extentOf l
-unfolding outlineOf
-outline-extent l = go (extentOf l)
-  where
-    go : (x : Extent) → outlineAt x l .extent ≡ x
-    go (Refused k) = refl
-    go (Octets e) = refl
 
 exactly-octets : (x : Extent) (n : ℕ) → exactly x n ≡ true → x ≡ Octets n
 exactly-octets (Refused k) n e = let z : _≡_ {A = Bool} false true = e in cc

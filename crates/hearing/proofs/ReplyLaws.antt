@@ -13,17 +13,16 @@ use Rattle.tally.specs.Tests.{pick, both, all}
 use Rattle.tally.specs.Due.{firstDue}
 use Rattle.tally.proofs.TestsLaws.{not-below, below-or-at}
 use Rattle.lldpdu.specs.Extent.{extentOf}
-use Rattle.lldpdu.specs.Rows.{rowsOf}
 use Rattle.lldpdu.specs.Outline.{refusedOutline, outlineAt, outlineOf}
 use Rattle.text.specs.Part.{textOf}
 use Rattle.walk.specs.declared.Extent.{Extent}
 use Rattle.walk.specs.declared.Extent.the-variants as extent-is
 use Rattle.lldpdu.specs.declared.outline.Outline.{Outline}
-use Rattle.lldpdu.proofs.ExtentLaws.{not-both, good}
+use Rattle.lldpdu.proofs.ExtentLaws.{not-both, good, outline-extent}
 use Rattle.lldpdu.proofs.Few.{Few, extent-few}
 use Rattle.lldpdu.proofs.RowsLaws.{dueIn, extent-rows}
 use Rattle.lldpdu.proofs.Stable.{sized}
-use Rattle.reader.specs.Frame.{frameOk, onFrame}
+use Rattle.reader.specs.Frame.{frameOk, onFrame, frameRows}
 use Rattle.reader.proofs.FrameLaws.{frame-size, on-good, on-bad}
 use Rattle.rules.specs.Identity.{Ident}
 use Rattle.rules.specs.Events.{Announcement, Heard, unread, says, whose}
@@ -42,7 +41,7 @@ use Rattle.hearing.specs.Frame.{heardOf, heardIn, Told, reception, told,
 use Rattle.hearing.specs.declared.Reception.{Reception}
 use Rattle.place.proofs.WhoseLaws.{outline-ident}
 use Rattle.fitness.proofs.FitLaws.{fit-parts}
-use Rattle.fitness.proofs.KeepLaws.{outline-extent, kept-outline}
+use Rattle.fitness.proofs.KeepLaws.{kept-outline}
 
 -- What each return tells
 
@@ -167,7 +166,7 @@ module _ (s : State) (p : ℕ) (f : fit s ≡ true) (l : p < ports) where
       go false false false false true e = refl
       go false false false false false e = refl
 
-  heard-refusal : (f : List ℕ) → refusalOfReply (onHeard (heardOf f) p s .outcome .reply) ≡ firstDue ((not (frameOk f), 3) ∷ rowsOf (drop 14 f) (roomRows (heardOf f) p s))
+  heard-refusal : (f : List ℕ) → refusalOfReply (onHeard (heardOf f) p s .outcome .reply) ≡ firstDue (frameRows f (roomRows (heardOf f) p s))
   unfolding heardOf onFrame outlineOf
   heard-refusal f = rw (extent-rows (drop 14 f) (roomRows (heardOf f) p s)) (go (frameOk f) (extentOf (drop 14 f)))
     where
@@ -184,7 +183,7 @@ hears-exactly p f s e = record { exact = e; refusal = ap (λ (x : Told). refusal
   where
     go : (b : Bool) → fit s ≡ b → (d : Bool) → ltb p ports ≡ d
         → refusalOfReply (pick b (pick d (onHeard (heardOf f) p s) (telling (Refused 2) s)) (telling (Refused 1) s) .outcome .reply)
-        ≡ pick (not b) 1 (pick (not d) 2 (firstDue ((not (frameOk f), 3) ∷ rowsOf (drop 14 f) (roomRows (heardOf f) p s))))
+        ≡ pick (not b) 1 (pick (not d) 2 (firstDue (frameRows f (roomRows (heardOf f) p s))))
     go true q true r = heard-refusal s p q (ltb-true p ports r) f
     go true q false r = refl
     go false q d r = refl

@@ -8,11 +8,10 @@ use lib.ListN.{take, drop}
 use lib.Dec.{ltb, leb, eqb}
 use Rattle.tally.specs.Tests.{pick, both, all}
 use Rattle.tally.specs.Due.{firstDue}
-use Rattle.lldpdu.specs.Rows.{rowsOf}
 use Rattle.lldpdu.specs.Outline.{refusedOutline, outlineOf}
 use Rattle.walk.specs.declared.Extent.{Extent}
 use Rattle.walk.specs.declared.Extent.the-variants as extent-is
-use Rattle.reader.specs.Frame.{frameOk, onFrame}
+use Rattle.reader.specs.Frame.{onFrame, frameRows}
 use Rattle.rules.specs.Identity.{Ident}
 use Rattle.rules.specs.Events.{Announcement, Heard, unread, says, whose}
 use Rattle.rules.specs.Shares.{sure, most, beyond, room}
@@ -96,8 +95,7 @@ roomRows (unread k) p s = []
 roomRows (says a) p s = forRoom (isNew s p a) (holds (s .table) p) (beyond ports (holds (s .table)))
 
 unfoldable pub refusalOnFrame : ℕ → List ℕ → State → ℕ
-refusalOnFrame p f s =
-    firstDue ((not (fit s), 1) ∷ (leb ports p, 2) ∷ (not (frameOk f), 3) ∷ rowsOf (drop 14 f) (roomRows (heardOf f) p s))
+refusalOnFrame p f s = firstDue ((not (fit s), 1) ∷ (leb ports p, 2) ∷ frameRows f (roomRows (heardOf f) p s))
 
 -- The contract of a frame on a port: this outcome and these octets and no others, with the refusal number that the rules give
 pub record Hears (p : ℕ) (f : List ℕ) (s : State) (o : Reception) (b : List ℕ) : Type 0 where

@@ -14,6 +14,7 @@ use Rattle.tally.proofs.TestsLaws.{both-true, held}
 use Rattle.octets.specs.Header.{lengthIn}
 use Rattle.walk.specs.Walk.{headOf, walk}
 use Rattle.lldpdu.specs.Extent.{chassisOk, portOk, secondsOk, need, portLength, restOf, behindPort, behindChassis, extentOf}
+use Rattle.lldpdu.specs.Outline.{outlineAt, outlineOf}
 use Rattle.walk.proofs.WalkLaws.{whole}
 use Rattle.walk.specs.declared.Head.{Head}
 use Rattle.walk.specs.declared.Head.the-variants.{Short, Whole}
@@ -106,3 +107,12 @@ good s e q =
 
 pub good-port : {s : List ℕ} {e : ℕ} → Good s e → (2 ≤ portLength s) × (portLength s ≤ 256)
 good-port {s} g = port-short (getD s 11 0) 2 (portLength s) (g .port)
+
+-- an outline has the extent of its LLDPDU
+pub outline-extent : (l : List ℕ) → outlineOf l .extent ≡ extentOf l
+unfolding outlineOf
+outline-extent l = go (extentOf l)
+  where
+    go : (x : Extent) → outlineAt x l .extent ≡ x
+    go (Refused k) = refl
+    go (Octets e) = refl

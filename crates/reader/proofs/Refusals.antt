@@ -1,7 +1,7 @@
 -- The refusal of a frame, row by row: 3 exactly where length, destination or type is not as F1 to F3 say, then 4 to 6 by the TLVs (R3 to R6, R11).
 -- It holds of any answer that has an LLDPDU's refusal for its number, so of the outline and of the whole reading.
 use Prim.Native.Nat.{ℕ}
-use mathlib.Core.Path.{_≡_, refl}
+use mathlib.Core.Path.{_≡_, refl, ap}
 use mathlib.Core.Logic.{_↔_}
 use mathlib.Core.List.{List, []}
 use mathlib.Core.Bool.{Bool, true, false, not}
@@ -9,22 +9,15 @@ use native.Mathlib.Omega.{arith}
 use lib.ListN.{drop}
 use Rattle.tally.specs.Tests.{pick}
 use Rattle.lldpdu.specs.Extent.{refusalOfExtent, extentOf}
-use Rattle.lldpdu.specs.Outline.{refusedOutline, outlineAt, outlineOf}
+use Rattle.lldpdu.specs.Outline.{refusedOutline, outlineOf}
 use Rattle.walk.specs.declared.Extent.{Extent}
 use Rattle.walk.specs.declared.Extent.the-variants.{Refused, Octets}
 use Rattle.lldpdu.specs.declared.outline.Outline.{Outline}
+use Rattle.lldpdu.proofs.ExtentLaws.{outline-extent}
 use Rattle.lldpdu.proofs.Few.{Few, extent-few}
 use Rattle.lldpdu.proofs.RowsLaws.{dueIn, extent-rows}
 use Rattle.reading.specs.Meaning.{ReaderAnswer, refusedAnswer, answerAt, answerOf}
 use Rattle.reader.specs.Frame.{frameOk, onFrame, frameRefusal}
-
-outline-refusal : (s : List ℕ) → refusalOfExtent (outlineOf s .extent) ≡ refusalOfExtent (extentOf s)
-unfolding outlineOf
-outline-refusal s = go (extentOf s)
-  where
-    go : (e : Extent) → refusalOfExtent (outlineAt e s .extent) ≡ refusalOfExtent e
-    go (Refused n) = refl
-    go (Octets n) = refl
 
 answer-refusal : (s : List ℕ) → answerOf s .refusal ≡ refusalOfExtent (extentOf s)
 unfolding answerOf
@@ -46,7 +39,7 @@ module _ (f : List ℕ) where
         go false e q = bad-is
 
   pub outline-rows : refusalOfExtent (onFrame (refusedOutline 3) outlineOf f .extent) ≡ frameRefusal f
-  outline-rows = any-rows (λ (o : Outline). refusalOfExtent (o .extent)) (refusedOutline 3) outlineOf refl outline-refusal
+  outline-rows = any-rows (λ (o : Outline). refusalOfExtent (o .extent)) (refusedOutline 3) outlineOf refl (λ s. ap refusalOfExtent (outline-extent s))
 
   pub answer-rows : onFrame (refusedAnswer 3) answerOf f .refusal ≡ frameRefusal f
   answer-rows = any-rows (λ (a : ReaderAnswer). a .refusal) (refusedAnswer 3) answerOf refl answer-refusal

@@ -37,9 +37,12 @@ frameOk f =
 unfoldable pub onFrame : {A : Type 0} → A → (List ℕ → A) → List ℕ → A
 onFrame three answer f = pick (frameOk f) (answer (drop 14 f)) three
 
--- the refusal number row by row: 3 (R3), then the TLVs front to back (R4 to R6, R11)
+-- refusals row by row: 3 (R3), then the TLVs front to back (R4 to R6, R11), then the rows `rest`
+abbrev pub frameRows : List ℕ → List (Bool × ℕ) → List (Bool × ℕ)
+frameRows f rest = (not (frameOk f), 3) ∷ rowsOf (drop 14 f) rest
+
 unfoldable pub frameRefusal : List ℕ → ℕ
-frameRefusal f = firstDue ((not (frameOk f), 3) ∷ rowsOf (drop 14 f) [])
+frameRefusal f = firstDue (frameRows f [])
 
 -- The contract of the reader on a frame: this answer and no other, and it means what the rules say
 pub record ReadsFrame (f : List ℕ) (r : Reading) : Type 0 where

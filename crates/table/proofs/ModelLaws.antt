@@ -18,7 +18,7 @@ use Rattle.lldpdu.specs.Outline.{refusedOutline, outlineOf}
 use Rattle.walk.specs.declared.Extent.{Extent}
 use Rattle.walk.specs.declared.Extent.the-variants as extent-is
 use Rattle.lldpdu.specs.declared.outline.Outline.{Outline}
-use Rattle.lldpdu.proofs.ExtentLaws.{good, not-both}
+use Rattle.lldpdu.proofs.ExtentLaws.{good, not-both, outline-extent}
 use Rattle.lldpdu.proofs.Stable.{sized}
 use Rattle.reader.specs.Frame as reader
 use Rattle.reader.proofs.FrameLaws.{frame-size, on-good, on-bad}
@@ -48,7 +48,7 @@ use Rattle.fitness.specs.View.{recOf, placeOf, view}
 use Rattle.place.proofs.PutLaws.{put-sized}
 use Rattle.fitness.proofs.ViewLaws.{place-free, place-used, Seen, seen, placed, getD-view, view-long, count-view, count-holds, view-fits}
 use Rattle.fitness.proofs.FitLaws.{parts-fit, room-for}
-use Rattle.fitness.proofs.KeepLaws.{outline-extent, kept-long, kept-extent, free-ok, free-long, keep-long}
+use Rattle.fitness.proofs.KeepLaws.{kept-long, kept-extent, free-ok, free-long, keep-long}
 use Rattle.fitness.proofs.WrittenLaws.{Good, Spoken, keep-place, keep-good, put-view, put-good}
 
 -- What the reader says of a frame
