@@ -113,7 +113,7 @@ fn written_again(read: &Plan) -> Vec<u8> {
 #[cfg(test)]
 mod tests {
     use super::*;
-    use crate::frames::blocks::{headed, EVERYONE, GROUP, LLDP};
+    use crate::frames::blocks::{headed, EVERYONE, LLDP, NEAREST, SOUGHT};
     use crate::reader::{read_frame, Reading};
 
     /// The cases that are written, with the octets and their reading.
@@ -165,8 +165,9 @@ mod tests {
             };
             assert_eq!(Some(Plan::read_back(&reading)), case.description.with(octets));
             assert_eq!(reading.outline.length, lldpdu.len());
-            for destination in [EVERYONE, GROUP] {
-                let frame = headed(destination, case.description.chassis, LLDP, &lldpdu);
+            // The chassis would not do as the source: it may be a group address (F4).
+            for destination in [EVERYONE, NEAREST] {
+                let frame = headed(destination, SOUGHT, LLDP, &lldpdu);
                 assert_eq!(read_frame(&frame).as_ref(), Ok(&reading));
             }
         }

@@ -1,4 +1,5 @@
-//! The events: the run cases, random sequences of calls on the table, and spoiled tables.
+//! The events: the run cases, frames from group addresses, random sequences of calls on the table,
+//! and spoiled tables.
 //! The case file and the text that is expected for it are made here.
 //!
 //! A spoiled table is made in this way. Events have led to a table that is fit, and it is kept.
@@ -54,6 +55,7 @@ pub struct Trial {
 pub fn events() -> Vec<Event> {
     let mut maker = Maker::new();
     maker.bench();
+    maker.frames_from_group_addresses();
     maker.sequences();
     maker.events
 }
@@ -106,6 +108,7 @@ pub fn expected(events: &[Event]) -> String {
 #[cfg(test)]
 pub(crate) mod tests {
     use super::*;
+    use crate::frames::blocks::{from_a_group, from_a_station, HEADER};
     use crate::table::BUFFER_OCTETS;
     use std::sync::OnceLock;
 
@@ -126,6 +129,10 @@ pub(crate) mod tests {
             words[1..words.len() - 1].join(" ")
         };
         stored().1.lines().map(answer).collect()
+    }
+
+    fn is_from_a_group(frame: &[u8]) -> bool {
+        frame.len() >= HEADER && from_a_group(frame.to_vec()) == frame
     }
 
     #[test]
@@ -175,6 +182,39 @@ pub(crate) mod tests {
         assert!(ports.iter().any(|port| *port > 1 << 32 && port % 256 < 8));
     }
 
+    /// A frame from a group address gets 3 where no 1 or 2 is due (F4, R11) and changes nothing
+    /// (R12). From stations these frames would have had each of the other answers.
+    #[test]
+    fn group_sources_keep_every_answer_away() {
+        let mut desk = Desk::new();
+        let mut kept_away = Vec::new();
+        for event in &stored().0 {
+            match event {
+                Event::Spoiled(_) => desk.take_back(),
+                Event::Frame { port, frame } if is_from_a_group(frame) => {
+                    let before = desk.clone();
+                    let other = Event::Frame { port: *port, frame: from_a_station(frame.clone()) };
+                    let other = before.clone().act(&other).expect("a frame is a call");
+                    let due = match other.as_str() {
+                        earlier @ ("refused 1" | "refused 2") => earlier,
+                        _ => "refused 3",
+                    };
+                    assert_eq!(desk.act(event).as_deref(), Some(due));
+                    assert!(desk.table == before.table && desk.buffer() == before.buffer());
+                    kept_away.push(other);
+                }
+                _ => drop(desk.act(event)),
+            }
+        }
+        let mut answers =
+            ["recorded", "refreshed", "gone", "unknown goodbye"].map(String::from).to_vec();
+        answers.extend([1, 2, 4, 5, 6, 7, 8].map(|number| format!("refused {number}")));
+        let count = |answer: &String| kept_away.iter().filter(|other| *other == answer).count();
+        let counts: Vec<_> = answers.iter().map(|answer| (answer, count(answer))).collect();
+        println!("{counts:?}");
+        assert!(counts.iter().all(|&(_, count)| count >= 3));
+    }
+
     /// Each table breaks the one condition of N5 that it was spoiled to break.
     #[test]
     fn each_table_is_spoiled_in_its_way_alone() {
@@ -202,6 +242,8 @@ pub(crate) mod tests {
             Event::Spoiled(trial) => Some(trial),
             _ => None,
         });
+        // 1 goes before the 3 that a group address as source gives (F4, R11).
+        assert!(trials.clone().filter(|trial| is_from_a_group(&trial.frame)).count() >= 300);
         let lines = text.lines().filter(|line| line.contains(" spoiled "));
         let five = "refused 1 refused 1 refused 1 refused 1 refused 1";
         for (trial, line) in trials.zip(lines) {

@@ -145,6 +145,7 @@ pub(crate) fn hex(octets: &[u8]) -> String {
 #[cfg(test)]
 mod tests {
     use super::*;
+    use blocks::{end, from_a_station, leading, typical};
 
     #[test]
     fn there_are_as_many_cases_as_promised() {
@@ -152,7 +153,7 @@ mod tests {
         let frames = cases.iter().filter(|case| case.kind == Kind::Frame).count();
         let bare = cases.len() - frames;
         println!("{} cases, {frames} frames, {bare} bare", cases.len());
-        assert!((2400..=2800).contains(&cases.len()));
+        assert!((2400..=3200).contains(&cases.len()));
         assert!(frames >= 2100);
         assert!(bare >= 200);
     }
@@ -160,7 +161,8 @@ mod tests {
     /// A rule that hardly ever decides would hardly be compared.
     #[test]
     fn no_answer_is_rare() {
-        let text = expected(&cases());
+        let cases = cases();
+        let text = expected(&cases);
         let lines = |wanted: &dyn Fn(&[&str]) -> bool| {
             text.lines().filter(|line| wanted(&line.split(' ').skip(1).collect::<Vec<_>>())).count()
         };
@@ -176,7 +178,28 @@ mod tests {
         for number in ["4", "5", "6"] {
             counts.push((number, lines(&|w| w == ["naming", "refused", number])));
         }
+        counts.push(("3 for the source", cases.iter().filter(|case| source_alone(case)).count()));
         println!("{counts:?}");
         assert!(counts.iter().all(|&(_, count)| count >= 20));
+    }
+
+    /// The frame gets 3, and from another source it does not (F4).
+    fn source_alone(case: &Case) -> bool {
+        case.kind == Kind::Frame
+            && case.octets.len() >= HEADER
+            && outline_frame(&case.octets) == Err(3)
+            && outline_frame(&from_a_station(case.octets.clone())) != Err(3)
+    }
+
+    /// What is called a right header is one (F1 to F4): the frame is judged as its LLDPDU is (A5).
+    #[test]
+    fn right_headers_are_right() {
+        let mut maker = Maker { rng: Rng::new(rng::FRAMES), cases: vec![] };
+        for lldpdu in [typical(), end(), leading().concat()] {
+            for _ in 0..200 {
+                let frame = [maker.header(), lldpdu.clone()].concat();
+                assert_eq!(read_frame(&frame), read_lldpdu(&lldpdu));
+            }
+        }
     }
 }

@@ -19,7 +19,7 @@ const BAD_LATER_TLV: Refusal = 6;
 const LONGEST_FRAME: usize = 1514;
 const LONGEST_DESCRIPTION: usize = 255;
 const EVERYONE: Address = [0xFF; 6];
-const LLDP_GROUP: Address = [0x01, 0x80, 0xC2, 0x00, 0x00, 0x0E];
+const NEAREST: Address = [0x01, 0x80, 0xC2, 0x00, 0x00, 0x0E];
 const LLDP_TYPE: [u8; 2] = [0x88, 0xCC];
 
 /// What every valid LLDPDU has (A1).
@@ -145,16 +145,22 @@ pub fn name_link(lldpdu: &[u8], address: Address) -> Result<Option<Naming>, Refu
     Ok(naming)
 }
 
-/// The octets behind a frame's header. Length, destination and type (F1 to F3) are judged before
-/// any TLV.
+/// The octets behind a frame's header. Length, destination, type and then source (F1 to F4) are
+/// judged before any TLV.
 fn payload(frame: &[u8]) -> Result<&[u8], Refusal> {
-    let (header, lldpdu) = frame.split_first_chunk::<14>().ok_or(BAD_HEADER)?;
-    let addressed = header.starts_with(&EVERYONE) || header.starts_with(&LLDP_GROUP);
-    if frame.len() <= LONGEST_FRAME && addressed && header.ends_with(&LLDP_TYPE) {
-        Ok(lldpdu)
-    } else {
-        Err(BAD_HEADER)
-    }
+    let (destination, rest) = frame.split_first_chunk::<6>().ok_or(BAD_HEADER)?;
+    let (source, rest) = rest.split_first_chunk::<6>().ok_or(BAD_HEADER)?;
+    let (kind, lldpdu) = rest.split_first_chunk::<2>().ok_or(BAD_HEADER)?;
+    let right = frame.len() <= LONGEST_FRAME
+        && [EVERYONE, NEAREST].contains(destination)
+        && *kind == LLDP_TYPE
+        && !is_group(source);
+    right.then_some(lldpdu).ok_or(BAD_HEADER)
+}
+
+/// The lowest bit of the first octet is set: no station owns such an address (F4).
+fn is_group(address: &Address) -> bool {
+    address[0] & 0x01 != 0
 }
 
 /// A TLV with its own copy of its information string (L2): nothing behind it can be read by

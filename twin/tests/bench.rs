@@ -1,4 +1,4 @@
-//! The bench frames B1 to B12 and the readings of open points, as ordinary tests.
+//! The bench frames B1 to B12, the source (F4) and the readings of open points, as ordinary tests.
 //! Octets and expected values are typed from the rules page by hand, never taken from the program.
 
 mod page;
@@ -14,6 +14,12 @@ const CATEGORY: usize = 31;
 const MODEL_NUMBER: usize = 40;
 const END: usize = 49;
 
+/// The second destination (F2).
+const NEAREST: Address = [0x01, 0x80, 0xC2, 0x00, 0x00, 0x0E];
+
+/// The group address that F4 shows.
+const NO_STATION: Address = [0x03, 0x00, 0x00, 0x00, 0x00, 0x01];
+
 /// Frame A with the octets from one place to another replaced.
 fn replaced(from: usize, to: usize, by: &[u8]) -> Vec<u8> {
     [&FRAME_A[..from], by, &FRAME_A[to..]].concat()
@@ -22,6 +28,11 @@ fn replaced(from: usize, to: usize, by: &[u8]) -> Vec<u8> {
 /// Frame A with octets put before its End.
 fn before_end(octets: &[u8]) -> Vec<u8> {
     replaced(END, END, octets)
+}
+
+/// Frame A with another source.
+fn sent_by(source: Address) -> Vec<u8> {
+    replaced(6, 12, &source)
 }
 
 /// What the page says of frame A (B1).
@@ -126,10 +137,88 @@ fn p12_string_length_beyond_the_tlv() {
 
 #[test]
 fn both_destinations_and_no_other() {
-    let group = [0x01, 0x80, 0xC2, 0x00, 0x00, 0x0E];
-    assert_eq!(read_frame(&replaced(0, 6, &group)), Ok(reading_of_a()));
+    assert_eq!(read_frame(&replaced(0, 6, &NEAREST)), Ok(reading_of_a()));
     let near = [0x01, 0x80, 0xC2, 0x00, 0x00, 0x00];
     assert_eq!(read_frame(&replaced(0, 6, &near)), Err(3));
+}
+
+#[test]
+fn no_group_address_as_source() {
+    let first_bit = [0x01, 0x00, 0x00, 0x00, 0x00, 0x00];
+    for source in [NO_STATION, first_bit, NEAREST, [0xFF; 6]] {
+        let to_the_nearest = [&NEAREST[..], &sent_by(source)[6..]].concat();
+        for frame in [sent_by(source), to_the_nearest] {
+            assert_eq!(read_frame(&frame), Err(3));
+            assert_eq!(outline_frame(&frame), Err(3));
+        }
+    }
+    let all_but_one_bit = [0xFE, 0xFF, 0xFF, 0xFF, 0xFF, 0xFF];
+    let other_octets = [0x02, 0x01, 0x01, 0x01, 0x01, 0x01];
+    for source in [all_but_one_bit, other_octets, [0x00; 6]] {
+        assert_eq!(read_frame(&sent_by(source)), Ok(reading_of_a()));
+        assert_eq!(outline_frame(&sent_by(source)), Ok(reading_of_a().outline));
+    }
+}
+
+#[test]
+fn an_odd_first_octet_makes_a_group_address() {
+    for first in 0..=255 {
+        let due = if first % 2 == 1 { Err(3) } else { Ok(reading_of_a()) };
+        assert_eq!(read_frame(&sent_by([first, 0x00, 0x00, 0x00, 0x00, 0x01])), due);
+    }
+}
+
+#[test]
+fn the_source_goes_before_the_tlvs() {
+    let whole = sent_by(NO_STATION);
+    // No TLV, no End, half an End, an End as the first TLV, the seconds once more.
+    let faults: [(usize, &[u8], Refusal); 5] = [
+        (FIRST, &[], 5),
+        (END, &[], 5),
+        (END, &[0x00], 5),
+        (FIRST, &[0x00, 0x00], 4),
+        (END, &[0x06, 0x02, 0x00, 0x78, 0x00, 0x00], 6),
+    ];
+    for (kept, behind, due) in faults {
+        assert_eq!(read_frame(&[&FRAME_A[..kept], behind].concat()), Err(due));
+        assert_eq!(read_frame(&[&whole[..kept], behind].concat()), Err(3));
+    }
+    // Padding does not change it, up to the longest frame.
+    for length in [60, 1514] {
+        let mut padded = whole.clone();
+        padded.resize(length, 0x00);
+        assert_eq!(read_frame(&padded), Err(3));
+    }
+}
+
+#[test]
+fn only_the_source_must_be_no_group_address() {
+    // As the chassis, in a frame and bare.
+    let mut expected = reading_of_a();
+    expected.outline.chassis = NO_STATION;
+    let frame = replaced(FIRST + 3, SECOND, &NO_STATION);
+    assert_eq!(read_frame(&frame), Ok(expected.clone()));
+    assert_eq!(read_lldpdu(&frame[14..]), Ok(expected));
+    // In link information and in the address list.
+    let link = [0xFE, 0x0F, 0xE0, 0x27, 0x1A, 0x02, 0x01, 0x06, 0x01, 0x03, 0x01];
+    let list = [0xFE, 0x0B, 0xE0, 0x27, 0x1A, 0x03, 0x01];
+    let frame = before_end(&[&link[..], &NO_STATION, &list, &NO_STATION].concat());
+    let read = reading(&frame);
+    assert!(read.htip);
+    assert_eq!(read.link.expect("it is there").addresses, [NO_STATION]);
+    assert_eq!(read.list, Some(vec![NO_STATION]));
+    assert!(name_link(&frame[14..], NO_STATION).is_ok_and(|naming| naming.is_some()));
+}
+
+#[test]
+fn a_bare_lldpdu_has_no_source() {
+    // The seventh octet, where a frame's source begins, is in the chassis here.
+    let mut bare = A;
+    bare[6] = 0x03;
+    let mut expected = reading_of_a();
+    expected.outline.chassis = [0x02, 0x00, 0x00, 0x03, 0x00, 0x01];
+    assert_eq!(read_lldpdu(&bare), Ok(expected.clone()));
+    assert_eq!(outline_lldpdu(&bare), Ok(expected.outline));
 }
 
 #[test]

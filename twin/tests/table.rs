@@ -41,6 +41,12 @@ fn goodbye(number: u8) -> Vec<u8> {
     [&HEADER[..], &whole[..17], &[0x00, 0x00]].concat()
 }
 
+/// The frame with the source 03-00-00-00-00-01, a group address (F4).
+fn from_a_group(mut frame: Vec<u8>) -> Vec<u8> {
+    frame[6] = 0x03;
+    frame
+}
+
 /// A table with the buffer that is lent to it.
 #[derive(Clone, Debug, PartialEq, Eq)]
 struct Watch {
@@ -122,6 +128,7 @@ impl Watch {
             self.refuses(1, |watch| watch.frame(port, &neighbour(1)).err());
             self.refuses(1, |watch| watch.frame(port, &goodbye(1)).err());
             self.refuses(1, |watch| watch.frame(port, &[]).err());
+            self.refuses(1, |watch| watch.frame(port, &from_a_group(neighbour(1))).err());
             self.refuses(1, |watch| watch.lost(port).err());
             self.refuses(1, |watch| watch.holds(port).err());
         }
@@ -247,7 +254,7 @@ fn what_makes_an_identity() {
     assert_eq!(watch.holds(1), Ok(1));
     // Destination, source, seconds and what follows them play no part.
     let mut other = frame(&[(SECONDS, 0xFF), (25, 0x42)]);
-    other[..12].copy_from_slice(&[0x01, 0x80, 0xC2, 0x00, 0x00, 0x0E, 9, 9, 9, 9, 9, 9]);
+    other[..12].copy_from_slice(&[0x01, 0x80, 0xC2, 0x00, 0x00, 0x0E, 8, 9, 9, 9, 9, 9]);
     assert_eq!(watch.frame(0, &other), Ok(Refreshed));
     watch.has(0, 0, 0xFF78, &other[14..]);
 }
@@ -267,6 +274,25 @@ fn goodbyes() {
     watch.has(0, 0, 0, &[]);
     assert_eq!(watch.frame(0, &laden), Ok(UnknownGoodbye));
     assert_eq!(watch.holds(0), Ok(5));
+}
+
+#[test]
+fn frames_from_a_group_address_change_nothing() {
+    let mut watch = Watch::of_b13();
+    assert_eq!(watch.seconds(20), Ok(()));
+    for (port, frame, due) in [
+        (0, neighbour(7), Err(7)),
+        (4, neighbour(43), Err(8)),
+        (5, neighbour(51), Ok(Recorded)),
+        (0, neighbour(1), Ok(Refreshed)),
+        (0, frame(&[(CHASSIS, 2), (SECONDS_LOW, 0)]), Ok(Gone)),
+        (0, goodbye(1), Ok(Gone)),
+        (0, goodbye(99), Ok(UnknownGoodbye)),
+    ] {
+        watch.refuses(3, |watch| watch.frame(port, &from_a_group(frame.clone())).err());
+        // Only the source made the difference.
+        assert_eq!(watch.clone().frame(port, &frame), due);
+    }
 }
 
 #[test]
@@ -335,6 +361,7 @@ fn the_order_of_refusals() {
     for port in [8, 9, 255, 256, 65_536, 1 << 32, usize::MAX] {
         watch.refuses(2, |watch| watch.frame(port, &neighbour(1)).err());
         watch.refuses(2, |watch| watch.frame(port, &[]).err());
+        watch.refuses(2, |watch| watch.frame(port, &from_a_group(neighbour(1))).err());
         watch.refuses(2, |watch| watch.lost(port).err());
         watch.refuses(2, |watch| watch.holds(port).err());
     }
@@ -345,6 +372,7 @@ fn the_order_of_refusals() {
     for port in [0, 4] {
         watch.refuses(3, |watch| watch.frame(port, &type_0800).err());
         watch.refuses(3, |watch| watch.frame(port, &new[..13]).err());
+        watch.refuses(3, |watch| watch.frame(port, &from_a_group(six_octets.clone())).err());
         watch.refuses(4, |watch| watch.frame(port, &six_octets).err());
         watch.refuses(5, |watch| watch.frame(port, &new[..50]).err());
         watch.refuses(6, |watch| watch.frame(port, &again).err());

@@ -1,13 +1,13 @@
--- Laws of addresses: the test for sameness says what it should, and what the loop over six octets cites.
+-- Laws of addresses: the test for sameness says what it should, what the loop over six octets cites, addresses past the end or in front of other octets.
 -- `same-equal` and `same-refl` pass between the test and equality.
 use Prim.Native.Nat.{ℕ, _+_, _<_, _≤_}
 use mathlib.Core.Path.{_≡_, refl, ap, ap₂}
-use mathlib.Core.List.{List, [], _∷_}
+use mathlib.Core.List.{List, [], _∷_, _++_}
 use mathlib.Core.Bool.{Bool, true, false}
 use native.Mathlib.Omega.{arith}
 use borrow.Author.Tests.{eq-eqb, eqb-true}
 use native.Mathlib.Numerals.{add-one}
-use lib.ListN.{length, drop, getD, drop-of-length-le, List·getD-eq-default}
+use lib.ListN.{length, drop, getD, drop-of-length-le, List·getD-eq-default, List·getD-append}
 use lib.Seq.{drop-cons}
 use lib.Dec.{eqb}
 use Rattle.tally.specs.Tests.{both}
@@ -52,3 +52,10 @@ unfolding sixAt
 six-past s at h =
     let z : (i : ℕ) → getD s (at + i) 0 ≡ 0 = λ i. List·getD-eq-default s 0 (omega arith) in
     rw (List·getD-eq-default s 0 h, z 1, z 2, z 3, z 4, z 5)
+
+-- an address in front of other octets is what it was without them
+pub six-front : (h s : List ℕ) (at : ℕ) → at + 6 ≤ length h → sixAt (h ++ s) at ≡ sixAt h at
+unfolding sixAt
+six-front h s at l =
+    let e : (i : ℕ) → i < 6 → getD (h ++ s) (at + i) 0 ≡ getD h (at + i) 0 = λ i b. List·getD-append h s 0 (at + i) (omega arith) in
+    rw (List·getD-append h s 0 at (omega arith), e 1 (omega arith), e 2 (omega arith), e 3 (omega arith), e 4 (omega arith), e 5 (omega arith))

@@ -1,5 +1,5 @@
 -- The laws of this crate's definitions.
--- A crate above cites them by name and never unfolds a definition of this crate.
+-- A crate above cites them by name.
 pub mod HeaderLaws
 pub mod NumbersLaws
 pub mod AddressLaws

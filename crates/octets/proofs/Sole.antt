@@ -20,6 +20,8 @@ use Rattle.octets.proofs.six.Kinds as six-kinds
 use Rattle.octets.proofs.six.Reads as six
 use Rattle.octets.proofs.same_six.Kinds as same-six-kinds
 use Rattle.octets.proofs.same_six.Reads as same-six
+use Rattle.octets.proofs.is_group.Kinds as is-group-kinds
+use Rattle.octets.proofs.is_group.Reads as is-group
 
 pub kind-of-sole : Sole 0 kind-of-kinds.ps kind-of-kinds.r kind-of.Post
 kind-of-sole κs a r q x y e f = e ∙ sym f
@@ -47,3 +49,6 @@ six-sole κs a r q x y e f = e ∙ sym f
 
 pub same-six-sole : Sole 0 same-six-kinds.ps same-six-kinds.r same-six.Post
 same-six-sole κs a r q x y e f = e ∙ sym f
+
+pub is-group-sole : Sole 0 is-group-kinds.ps is-group-kinds.r is-group.Post
+is-group-sole κs a r q x y e f = e ∙ sym f

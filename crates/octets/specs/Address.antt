@@ -1,6 +1,6 @@
--- Addresses: the six octets at a place, and when two strings of octets are the same.
+-- Addresses: the six octets at a place, when two strings of octets are the same, and what a group address is.
 -- What lies past the end counts as 0.
-use Prim.Native.Nat.{ℕ, _+_}
+use Prim.Native.Nat.{ℕ, _+_, _%_}
 use mathlib.Core.List.{List, [], _∷_}
 use mathlib.Core.Bool.{Bool, true, false}
 use lib.ListN.{getD}
@@ -15,3 +15,7 @@ sameOctets [] [] = true
 sameOctets [] (y ∷ b) = false
 sameOctets (x ∷ a) [] = false
 sameOctets (x ∷ a) (y ∷ b) = both (eqb x y) (sameOctets a b)
+
+-- a group address has the lowest bit of its first octet set (F4)
+unfoldable pub isGroup : List ℕ → Bool
+isGroup a = eqb (getD a 0 0 % 2) 1

@@ -4,7 +4,7 @@ ghost use mathlib.Core.Path.{_≡_};
 ghost use lib.ListN.{getD, take};
 ghost use Rattle.octets.specs.Header.{kindIn, lengthIn, high, low};
 ghost use Rattle.octets.specs.Numbers.{pairOf, valueOf};
-ghost use Rattle.octets.specs.Address.{sixAt, sameOctets};
+ghost use Rattle.octets.specs.Address.{sixAt, sameOctets, isGroup};
 
 // The seven bits of type (L1).
 pub fn kind_of(hi: u8) -> u8
@@ -91,4 +91,11 @@ pub fn same_six(a: [u8; 6], b: [u8; 6]) -> bool
         }
     }
     true
+}
+
+// Whether an address is a group address (F4).
+pub fn is_group(a: [u8; 6]) -> bool
+    ensures { λ r. ⌜ r ≡ isGroup a ⌝ }
+{
+    a[0] & 1 == 1
 }

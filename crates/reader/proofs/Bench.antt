@@ -1,12 +1,12 @@
 -- The bench frames B1 to B12: one table of frames and answers, and one computed test of it against the rules.
--- Verdicts, lengths and every field are in it; the code's answers mean the same by its contract.
+-- Verdicts, lengths and every field are in it; the code's answers mean the same by its contract. Then frame A from other sources (F4).
 use Prim.Native.Nat.{ℕ}
 use mathlib.Core.Path.{_≡_, refl}
 use mathlib.Core.List.{List, [], _∷_, _++_, map}
 use mathlib.Core.Bool.{Bool, true, false}
 use mathlib.Core.Option.{none}
 use lib.ListN.{take, drop}
-use Rattle.octets.specs.Address.{sixAt, sameOctets}
+use Rattle.octets.specs.Address.{sixAt, sameOctets, isGroup}
 use Rattle.strings.specs.Text.{charOk, textOk}
 use Rattle.strings.specs.Wants.{wantedOf}
 use Rattle.fields.specs.Device.{deviceOf}
@@ -16,7 +16,7 @@ use Rattle.walk.specs.Walk.{headOf, stepOf, walk}
 use Rattle.lldpdu.specs.Extent.{behindPort, behindChassis, extentOf}
 use Rattle.found.specs.Contents.{contents, wellFormed, htipOf}
 use Rattle.reading.specs.Meaning.{ReaderAnswer, refusedAnswer, answerOf}
-use Rattle.reader.specs.Frame.{frameOk, onFrame}
+use Rattle.reader.specs.Frame.{everyone, nearest, frameOk, onFrame}
 
 -- frame A in pieces
 abbrev header : List ℕ
@@ -93,5 +93,18 @@ bench =
     ∷ []
 
 pub bench-right : map (λ (c : Case). onFrame (refusedAnswer 3) answerOf (c .frame)) bench ≡ map (λ (c : Case). c .answer) bench
-unfolding sixAt sameOctets charOk textOk wantedOf deviceOf linkOk listOk descriptionOf linkOf listOf isTtc ttcOf fieldOf headOf stepOf walk behindPort behindChassis extentOf contents wellFormed htipOf answerOf frameOk onFrame
+unfolding sixAt sameOctets isGroup charOk textOk wantedOf deviceOf linkOk listOk descriptionOf linkOf listOf isTtc ttcOf fieldOf headOf stepOf walk behindPort behindChassis extentOf contents wellFormed htipOf answerOf frameOk onFrame
 bench-right = refl
+
+-- Frame A from other sources (F4)
+
+abbrev fits-from : List ℕ → Bool
+fits-from a = frameOk (take 6 frame-a ++ a ++ drop 12 frame-a)
+
+pub group-sources : map fits-from ((0x03 ∷ 0x00 ∷ 0x00 ∷ 0x00 ∷ 0x00 ∷ 0x01 ∷ []) ∷ nearest ∷ everyone ∷ []) ≡ false ∷ false ∷ false ∷ []
+unfolding sixAt sameOctets isGroup frameOk
+group-sources = refl
+
+pub other-sources : map fits-from ((0x00 ∷ 0x00 ∷ 0x00 ∷ 0x00 ∷ 0x00 ∷ 0x00 ∷ []) ∷ (0xFE ∷ 0xFF ∷ 0xFF ∷ 0xFF ∷ 0xFF ∷ 0xFF ∷ []) ∷ []) ≡ true ∷ true ∷ []
+unfolding sixAt sameOctets isGroup frameOk
+other-sources = refl

@@ -2,25 +2,29 @@
 -- The code on a frame cites on-good and on-bad; frame-exactly adds what the one answer means.
 use Prim.Native.Nat.{ℕ, _≤_}
 use mathlib.Core.Path.{_≡_, refl, ap, _∙_}
-use mathlib.Core.List.{List, [], _∷_}
-use mathlib.Core.Bool.{Bool, true, false}
+use mathlib.Core.List.{List}
+use mathlib.Core.Bool.{Bool, true, false, not}
 use borrow.Author.Tests.{leb-true}
-use lib.ListN.{length, drop, getD}
-use lib.Dec.{leb, eqb}
+use lib.ListN.{length, drop}
 use Rattle.tally.specs.Tests.{pick}
-use Rattle.tally.proofs.TestsLaws.{held}
-use Rattle.octets.specs.Address.{sixAt}
+use Rattle.tally.proofs.TestsLaws.{held, all-fails}
+use Rattle.octets.specs.Address.{isGroup}
 use Rattle.reading.specs.Reading.{refusedReading, readingOf}
 use Rattle.reading.specs.Meaning.{refusedAnswer, answerOf, meant}
-use Rattle.reader.specs.Frame.{destinationOk, frameOk, onFrame, ReadsFrame}
+use Rattle.reader.specs.Frame.{sourceOf, frameTests, frameOk, onFrame, ReadsFrame}
 use Rattle.reading.proofs.MeaningLaws.{reading-means}
 use Rattle.reading.specs.declared.Reading.{Reading}
 
 pub frame-size : (f : List ℕ) → frameOk f ≡ true → (14 ≤ length f) × (length f ≤ 1514)
 unfolding frameOk
 frame-size f e =
-    let h = held (leb 14 (length f) ∷ leb (length f) 1514 ∷ eqb (getD f 12 0) 0x88 ∷ eqb (getD f 13 0) 0xCC ∷ destinationOk (sixAt f 0) ∷ []) e in
+    let h = held (frameTests f) e in
     (leb-true 14 (length f) (h .0), leb-true (length f) 1514 (h .1 .0))
+
+-- no header with a group address as source is valid (F4)
+pub source-fails : (f : List ℕ) → isGroup (sourceOf f) ≡ true → frameOk f ≡ false
+unfolding frameOk
+source-fails f g = all-fails (frameTests f) 5 (ap not g)
 
 module _ {A : Type 0} (three : A) (answer : List ℕ → A) (f : List ℕ) where
   pub on-good : frameOk f ≡ true → onFrame three answer f ≡ answer (drop 14 f)

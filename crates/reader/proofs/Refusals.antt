@@ -1,4 +1,4 @@
--- The refusal of a frame, row by row: 3 exactly where length, destination or type is not as F1 to F3 say, then 4 to 6 by the TLVs (R3 to R6, R11).
+-- The refusal of a frame, row by row: 3 exactly where length, destination, type or source is not as F1 to F4 say, then 4 to 6 by the TLVs (R3 to R6, R11).
 -- It holds of any answer that has an LLDPDU's refusal for its number, so of the outline and of the whole reading.
 use Prim.Native.Nat.{ℕ}
 use mathlib.Core.Path.{_≡_, refl, ap}
@@ -8,6 +8,7 @@ use mathlib.Core.Bool.{Bool, true, false, not}
 use native.Mathlib.Omega.{arith}
 use lib.ListN.{drop}
 use Rattle.tally.specs.Tests.{pick}
+use Rattle.octets.specs.Address.{isGroup}
 use Rattle.lldpdu.specs.Extent.{refusalOfExtent, extentOf}
 use Rattle.lldpdu.specs.Outline.{refusedOutline, outlineOf}
 use Rattle.walk.specs.declared.Extent.{Extent}
@@ -17,7 +18,8 @@ use Rattle.lldpdu.proofs.ExtentLaws.{outline-extent}
 use Rattle.lldpdu.proofs.Few.{Few, extent-few}
 use Rattle.lldpdu.proofs.RowsLaws.{dueIn, extent-rows}
 use Rattle.reading.specs.Meaning.{ReaderAnswer, refusedAnswer, answerAt, answerOf}
-use Rattle.reader.specs.Frame.{frameOk, onFrame, frameRefusal}
+use Rattle.reader.specs.Frame.{sourceOf, frameOk, onFrame, frameRefusal}
+use Rattle.reader.proofs.FrameLaws.{source-fails}
 
 answer-refusal : (s : List ℕ) → answerOf s .refusal ≡ refusalOfExtent (extentOf s)
 unfolding answerOf
@@ -53,3 +55,7 @@ module _ (f : List ℕ) where
       go true (Refused n) h = (λ e. absurd (omega (arith, h .0)), λ e. let z : _≡_ {A = Bool} true false = e in cc)
       go true (Octets n) h = (λ e. absurd (omega arith), λ e. let z : _≡_ {A = Bool} true false = e in cc)
       go false e h = (λ q. refl, λ q. refl)
+
+  -- F4, whatever else the frame has
+  pub group-refused : isGroup (sourceOf f) ≡ true → frameRefusal f ≡ 3
+  group-refused g = three .1 (source-fails f g)

@@ -1,4 +1,4 @@
--- A frame: when its length, destination and type are as they should be (F1 to F3), and the answer on it (A5).
+-- A frame: when its length, destination, type and source are as they should be (F1 to F4), and the answer on it (A5).
 -- Refusal 3 is given exactly where they are not (R3); else the answer is that on the octets from 14 on.
 use Prim.Native.Nat.{ℕ}
 use mathlib.Core.Path.{_≡_}
@@ -8,7 +8,7 @@ use lib.ListN.{length, drop, getD}
 use lib.Dec.{leb, eqb}
 use Rattle.tally.specs.Tests.{pick, either, all}
 use Rattle.tally.specs.Due.{firstDue}
-use Rattle.octets.specs.Address.{sixAt, sameOctets}
+use Rattle.octets.specs.Address.{sixAt, sameOctets, isGroup}
 use Rattle.lldpdu.specs.Rows.{rowsOf}
 use Rattle.reading.specs.Reading.{refusedReading, readingOf}
 use Rattle.reading.specs.Meaning.{refusedAnswer, answerOf, meant}
@@ -24,14 +24,23 @@ nearest = 0x01 ∷ 0x80 ∷ 0xC2 ∷ 0x00 ∷ 0x00 ∷ 0x0E ∷ []
 abbrev pub destinationOk : List ℕ → Bool
 destinationOk a = either (sameOctets a everyone) (sameOctets a nearest)
 
-unfoldable pub frameOk : List ℕ → Bool
-frameOk f =
-    all (leb 14 (length f)
+-- octets 6 to 11 (F1)
+abbrev pub sourceOf : List ℕ → List ℕ
+sourceOf f = sixAt f 6
+
+-- length (F1), type (F3), destination (F2) and, last, source (F4)
+abbrev pub frameTests : List ℕ → List Bool
+frameTests f =
+    leb 14 (length f)
     ∷ leb (length f) 1514
     ∷ eqb (getD f 12 0) 0x88
     ∷ eqb (getD f 13 0) 0xCC
     ∷ destinationOk (sixAt f 0)
-    ∷ [])
+    ∷ not (isGroup (sourceOf f))
+    ∷ []
+
+unfoldable pub frameOk : List ℕ → Bool
+frameOk f = all (frameTests f)
 
 -- what is answered with refusal 3, or what is answered of the LLDPDU
 unfoldable pub onFrame : {A : Type 0} → A → (List ℕ → A) → List ℕ → A

@@ -1,11 +1,12 @@
-// A whole frame: its length, destination and type, then the LLDPDU behind them.
+// A whole frame: its length, destination, type and source, then the LLDPDU behind them.
 // The parts of an answer count from the first octet of the LLDPDU, which is octet 14 of the frame.
 ghost use mathlib.Core.Path.{_≡_};
-ghost use Rattle.reader.specs.Frame.{frameOk, onFrame, ReadsFrame};
+ghost use Rattle.reader.specs.Frame.{destinationOk, frameOk, onFrame, ReadsFrame};
 ghost use Rattle.lldpdu.specs.Outline.{refusedOutline, outlineOf};
 use lldpdu::Outline;
 use lldpdu::outline_lldpdu;
 use lldpdu::refused_outline;
+use octets::is_group;
 use octets::octet;
 use octets::same_six;
 use octets::six;
@@ -20,7 +21,17 @@ const LONGEST: usize = 1514;
 
 const NO_FRAME: u8 = 3;
 
-// Refusal 3 is given exactly where this is false (F1, F2, F3).
+// The two destinations (F2).
+fn destination_fits(a: [u8; 6]) -> bool
+    ensures { λ r. ⌜ r ≡ destinationOk a ⌝ }
+{
+    if same_six(a, [0xFF, 0xFF, 0xFF, 0xFF, 0xFF, 0xFF]) {
+        return true;
+    }
+    same_six(a, [0x01, 0x80, 0xC2, 0x00, 0x00, 0x0E])
+}
+
+// Refusal 3 is given exactly where this is false (F1 to F4).
 fn frame_fits(f: &[u8]) -> bool
     ensures { λ r. ⌜ r ≡ frameOk (now (f .entry)) ⌝ }
 {
@@ -36,10 +47,10 @@ fn frame_fits(f: &[u8]) -> bool
     if octet(f, 13) != 0xCC {
         return false;
     }
-    if same_six(six(f, 0), [0xFF, 0xFF, 0xFF, 0xFF, 0xFF, 0xFF]) {
-        return true;
+    if !destination_fits(six(f, 0)) {
+        return false;
     }
-    same_six(six(f, 0), [0x01, 0x80, 0xC2, 0x00, 0x00, 0x0E])
+    !is_group(six(f, 6))
 }
 
 pub fn outline_frame(f: &[u8]) -> Outline

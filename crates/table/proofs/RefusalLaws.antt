@@ -1,13 +1,17 @@
 -- A refusal changes nothing (R12): whatever the table and the octets are, fit or not, an answer that is a refusal leaves them as they were.
--- It is read off the definitions of the calls, case by case.
-use Prim.Native.Nat.{ℕ}
-use mathlib.Core.Path.{_≡_, refl}
+-- It is read off the definitions of the calls, case by case. Then the one refusal that is for who sent the frame (F4).
+use Prim.Native.Nat.{ℕ, _<_}
+use mathlib.Core.Path.{_≡_, refl, sym, _∙_}
 use mathlib.Core.Bool.{Bool, true, false}
 use mathlib.Core.List.{List}
 use native.Mathlib.Omega.{arith}
 use lib.Dec.{ltb, eqb}
 use lib.ListN.{length}
 use Rattle.tally.specs.Tests.{pick}
+use Rattle.octets.specs.Address.{isGroup}
+use Rattle.lldpdu.specs.Outline.{refusedOutline, outlineOf}
+use Rattle.reader.specs.Frame.{sourceOf}
+use Rattle.reader.proofs.FrameLaws.{source-fails, on-bad}
 use Rattle.rules.specs.Events.{Announcement, Heard, unread, says, whose}
 use Rattle.rules.specs.Shares.{room}
 use Rattle.rules.specs.declared.Room.{Room}
@@ -20,6 +24,7 @@ use Rattle.fitness.specs.Fit.{fit}
 use Rattle.freeing.specs.Changes.{aged, lost}
 use Rattle.freeing.specs.Calls.{After, answered, stateAfter, started, ifPort, passed, linkLost}
 use Rattle.hearing.specs.Frame.{heardOf, Told, telling, stateTold, heardAt, heardByRoom, heardNew, heardSaying, onHeard, heard}
+use Rattle.hearing.proofs.ReplyLaws.{unread-tells, heard-by}
 use Rattle.freeing.specs.declared.Answer.the-variants.{Done, Refused}
 
 module _ (s : State) where
@@ -99,3 +104,7 @@ module _ (s : State) where
       either-way (fit s) (pick (ltb p ports) (onHeard (heardOf f) p s) (telling (reply.Refused 2) s)) (telling (reply.Refused 1) s)
       (either-way (ltb p ports) (onHeard (heardOf f) p s) (telling (reply.Refused 2) s) (on-unchanged (heardOf f) p) (stays (reply.Refused 2)))
       (stays (reply.Refused 1))
+
+  -- a frame from a group address (F4): 3, and the table as it was
+  pub group-unheard : (p : ℕ) (f : List ℕ) → fit s ≡ true → p < ports → isGroup (sourceOf f) ≡ true → heard p f s ≡ telling (reply.Refused 3) s
+  group-unheard p f e l g = sym (unread-tells f (sym (on-bad (refusedOutline 3) outlineOf f (source-fails f g))) p s refl ∙ heard-by p f s e l)

@@ -5,7 +5,7 @@ use super::desk::Desk;
 use super::Event;
 use crate::frames::blocks::{category, leading_of, lldpdu, model_number, pool, Tlv};
 use crate::frames::maker::Maker as FrameMaker;
-use crate::reader::Address;
+use crate::reader::{outline_frame, Address};
 use crate::rng::{self, Rng};
 
 pub struct Maker {
@@ -57,7 +57,10 @@ impl Maker {
         let agent = self.unseen_agent();
         let seconds = self.rng().between(300, 65_535) as u16;
         let later = self.light_later();
-        self.hear(port, agent.announcement(seconds, &later));
+        let frame = [self.frames.header(), agent.announcement(seconds, &later)].concat();
+        // Who waits for a table to fill would wait for ever if these were refused.
+        assert!(outline_frame(&frame).is_ok());
+        self.call(Event::Frame { port, frame });
     }
 
     pub fn unseen_agent(&mut self) -> Agent {

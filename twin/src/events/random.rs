@@ -3,7 +3,7 @@
 
 use super::maker::{Agent, Maker};
 use super::Event;
-use crate::frames::blocks::{neighbour, pool, tlv, Tlv, HEADER};
+use crate::frames::blocks::{from_a_group, neighbour, pool, tlv, Tlv, HEADER};
 use crate::table::{BUFFER_OCTETS, COMMON, MOST, PLACE_OCTETS, PORTS, SURE};
 
 const SEQUENCES: usize = 66;
@@ -162,7 +162,8 @@ impl Maker {
         }
     }
 
-    /// A frame from a known agent, one much like it, or any; sometimes with a fault.
+    /// A frame from a known agent, one much like it, or any; sometimes with a fault, or from a
+    /// group address (F4).
     fn random_frame(&mut self, ports: &[usize]) -> Event {
         let (port, agent) = self.random_sender(ports);
         let seconds = self.random_seconds();
@@ -172,6 +173,9 @@ impl Maker {
         }
         let mut frame = [self.frames.header(), agent.announcement(seconds, &later)].concat();
         frame.extend(self.frames.random_padding());
+        if self.rng().once_in(12) {
+            frame = from_a_group(frame);
+        }
         if self.rng().once_in(8) {
             frame = self.damaged(frame);
         }

@@ -4,7 +4,7 @@
 use super::desk::STORE_OCTETS;
 use super::maker::Maker;
 use super::{Event, Trial};
-use crate::frames::blocks::pool;
+use crate::frames::blocks::{from_a_group, pool};
 use crate::reader::outline_lldpdu;
 use crate::table::{octets_of, BUFFER_OCTETS, COMMON, MOST, PLACE_OCTETS, PORTS, SURE};
 
@@ -87,7 +87,8 @@ impl Maker {
         })
     }
 
-    /// Nothing may hide behind a wrong port, a damaged frame or a start past the last place (R11).
+    /// Nothing may hide behind a wrong port, a group address as source, a damaged frame or a start
+    /// past the last place (R11).
     fn trial(&mut self, way: Way) -> Trial {
         let number = match self.rng().below(6) {
             0 => self.random_port(&[8]),
@@ -100,6 +101,9 @@ impl Maker {
         };
         let seconds = self.rng().pick(&[0, 1, 120, 65_535]);
         let mut frame = [self.frames.header(), agent.announcement(seconds, &[])].concat();
+        if self.rng().once_in(6) {
+            frame = from_a_group(frame);
+        }
         if self.rng().once_in(6) {
             frame = self.damaged(frame);
         }

@@ -4,12 +4,18 @@
 use crate::reader::Address;
 
 pub const EVERYONE: Address = [0xFF; 6];
-pub const GROUP: Address = [0x01, 0x80, 0xC2, 0x00, 0x00, 0x0E];
+pub const NEAREST: Address = [0x01, 0x80, 0xC2, 0x00, 0x00, 0x0E];
 pub const LLDP: [u8; 2] = [0x88, 0xCC];
 pub const HEADER: usize = 14;
 
+/// Where the source begins in a frame (F1).
+const SOURCE: usize = 6;
+
 /// The address that is asked for where a group of cases does not choose another one.
 pub const SOUGHT: Address = [0x02, 0x00, 0x00, 0x00, 0x10, 0x51];
+
+/// A group address: no station owns it, and so it is no source (F4).
+pub const NO_STATION: Address = [0x03, 0x00, 0x00, 0x00, 0x00, 0x01];
 
 pub const TTC: [u8; 3] = [0xE0, 0x27, 0x1A];
 
@@ -147,6 +153,18 @@ pub fn crowd(count: usize) -> Vec<Address> {
 
 pub fn headed(destination: Address, source: Address, kind: [u8; 2], lldpdu: &[u8]) -> Vec<u8> {
     [&destination, &source, &kind as &[u8], lldpdu].concat()
+}
+
+/// The frame with its source made a group address (F4).
+pub fn from_a_group(mut frame: Vec<u8>) -> Vec<u8> {
+    frame[SOURCE] |= 0x01;
+    frame
+}
+
+/// The frame with its source made one that is no group address (F4).
+pub fn from_a_station(mut frame: Vec<u8>) -> Vec<u8> {
+    frame[SOURCE] &= 0xFE;
+    frame
 }
 
 /// The octets cut or filled up with zeros to that length.

@@ -42,9 +42,10 @@ impl Maker {
         self.bare(lldpdu);
     }
 
+    /// A right header: either destination, and any source but a group address (F2, F4).
     pub fn header(&mut self) -> Vec<u8> {
-        let destination = self.rng.pick(&[EVERYONE, GROUP]);
-        headed(destination, self.rng.address(), LLDP, &[])
+        let destination = self.rng.pick(&[EVERYONE, NEAREST]);
+        from_a_station(headed(destination, self.rng.address(), LLDP, &[]))
     }
 
     /// A frame that is HTIP but for the given TLVs.

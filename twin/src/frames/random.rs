@@ -19,10 +19,12 @@ impl Maker {
         for round in 0..140 {
             let (lldpdu, asked) = self.random_lldpdu(round % 4 == 3);
             let kind = if round % 5 == 0 { Kind::Bare } else { Kind::Frame };
-            // One time in eight the header may be damaged too, else only what stands behind it.
+            // One time in eight the header may be damaged too, else only what stands behind it. One
+            // time in eight the source is a group address, and the damage is not looked at (F4).
             let (kept, mut octets) = match kind {
                 Kind::Bare => (vec![], lldpdu),
                 Kind::Frame if round % 8 == 1 => (vec![], [self.header(), lldpdu].concat()),
+                Kind::Frame if round % 8 == 5 => (from_a_group(self.header()), lldpdu),
                 Kind::Frame => (self.header(), lldpdu),
             };
             for _ in 0..self.rng.between(1, 3) {

@@ -10,6 +10,9 @@ impl Maker {
     pub fn rules(&mut self) {
         self.frame_lengths();
         self.frame_headers();
+        self.sources();
+        self.faults_besides_the_source();
+        self.other_group_addresses();
         self.leading_tlvs();
         self.prefixes();
         self.cuts();
@@ -76,12 +79,12 @@ impl Maker {
         inside
     }
 
-    /// Destination, source and type (F1 to F3).
+    /// Destination and type (F2, F3), and the header before the TLVs.
     fn frame_headers(&mut self) {
         let inside = self.beside(&[link(&[6], &[3], &[SOUGHT])]);
         let types =
             [0x88CB, 0x88CD, 0x87CC, 0x89CC, 0x0800, 0x8100, 0xCC88, 0x0000].map(u16::to_be_bytes);
-        for destination in [EVERYONE, GROUP] {
+        for destination in [EVERYONE, NEAREST] {
             let right = headed(destination, SOUGHT, LLDP, &inside);
             self.raw(right.clone());
             for place in 0..6 {
@@ -94,10 +97,6 @@ impl Maker {
             for kind in types {
                 self.raw(headed(destination, SOUGHT, kind, &inside));
             }
-            // Any source will do, a group address too (F1).
-            for source in [[0; 6], EVERYONE, GROUP] {
-                self.raw(headed(destination, source, LLDP, &inside));
-            }
         }
         // Half of one destination and half of the other, near ones, none, and a unicast one.
         for destination in [
@@ -108,13 +107,55 @@ impl Maker {
             [0x00; 6],
             SOUGHT,
         ] {
-            self.raw(headed(destination, GROUP, LLDP, &inside));
+            self.raw(headed(destination, SOUGHT, LLDP, &inside));
         }
-        // The header is judged before the TLVs.
+        // A wrong type or source goes before wrong TLVs (F3, F4, R11).
         for inside in [vec![], end(), lldpdu(&leading(), &[chassis()]), leading().concat()] {
             self.raw(headed(EVERYONE, SOUGHT, [0x88, 0xCD], &inside));
+            self.raw(headed(EVERYONE, NO_STATION, LLDP, &inside));
             self.raw(headed(EVERYONE, SOUGHT, LLDP, &inside));
         }
+    }
+
+    /// Sources of frames that have no other fault: the lowest bit of the first octet decides (F4).
+    fn sources(&mut self) {
+        for destination in [EVERYONE, NEAREST] {
+            for source in [NO_STATION, [0x01, 0, 0, 0, 0, 0], NEAREST, EVERYONE] {
+                self.raw(headed(destination, source, LLDP, &typical()));
+            }
+        }
+        let group = headed(EVERYONE, NO_STATION, LLDP, &typical());
+        for length in [group.len() + 9, 1514] {
+            self.raw(padded(&group, length));
+        }
+        // Every bit but that one, the lowest bits of the other octets, and no bit.
+        let mut stations = vec![[0xFE, 0xFF, 0xFF, 0xFF, 0xFF, 0xFF], [2, 1, 1, 1, 1, 1], [0; 6]];
+        // Each other bit of the first octet, and each other lowest bit, by itself.
+        stations.extend((1..8).map(|bit| [1 << bit, 0, 0, 0, 0, 0]));
+        stations.extend((1..6).map(|octet| std::array::from_fn(|i| u8::from(i == octet))));
+        for (destination, source) in [EVERYONE, NEAREST].into_iter().cycle().zip(stations) {
+            self.raw(headed(destination, source, LLDP, &typical()));
+        }
+    }
+
+    /// A group address as source of frames of a wrong length, destination or type (F1 to F4).
+    fn faults_besides_the_source(&mut self) {
+        let whole = headed(EVERYONE, NO_STATION, LLDP, &typical());
+        self.raw(whole[..13].to_vec());
+        self.raw(padded(&whole, 1515));
+        self.raw(headed(SOUGHT, NO_STATION, LLDP, &typical()));
+        self.raw(headed(EVERYONE, NO_STATION, [0x08, 0x00], &typical()));
+    }
+
+    /// Group addresses that are no source: the chassis, and what link information and address list
+    /// name (F4).
+    fn other_group_addresses(&mut self) {
+        let first_three = leading_of(NO_STATION, 7, b"1", 120);
+        let announced = lldpdu(&first_three, &[category(), model_number()]);
+        self.raw(headed(EVERYONE, SOUGHT, LLDP, &announced));
+        let fields = [category(), model_number(), link(&[6], &[3], &[NEAREST]), list(&[EVERYONE])];
+        let naming = headed(NEAREST, SOUGHT, LLDP, &lldpdu(&leading(), &fields));
+        self.add(Kind::Frame, naming, NEAREST);
     }
 
     /// The first three TLVs (L3 to L6): which, in what order, with what types, lengths and
@@ -740,7 +781,7 @@ impl Maker {
             self.frame_asking(tables.clone(), asked);
         }
         // The chassis and the destinations are in no table.
-        for asked in [[0x02, 0, 0, 0, 0, 1], EVERYONE, GROUP] {
+        for asked in [[0x02, 0, 0, 0, 0, 1], EVERYONE, NEAREST] {
             self.frame_asking(tables.clone(), asked);
         }
         // First and last in the longest table.

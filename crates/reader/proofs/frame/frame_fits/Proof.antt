@@ -1,25 +1,28 @@
--- `reader::frame::frame_fits` meets its contract: length, type and destination, front to back.
--- Each return cites the tests that led to it.
-use Prim.Native.Nat.{ℕ}
+-- `reader::frame::frame_fits` meets its contract: length, type, destination and source, in the order of `frameTests`.
+-- A return before the last cites the one test that fails, the last one all that hold.
 use mathlib.Core.Path.{_≡_, sym, ap, _∙_}
-use mathlib.Core.List.{List}
+use mathlib.Core.Bool.{not}
 use denote.Ref.{now}
-use borrow.Author.Tests.{eq-eqb, ne-eqb, le-leb, lt-leb}
+use borrow.Author.Tests.{not-true, not-false, eq-eqb, ne-eqb, le-leb, lt-leb}
 use borrow.Author.Needs.{needs}
 use lib.ListN.{getD}
-use Rattle.tally.proofs.TestsLaws.{both-end}
-use Rattle.octets.specs.Address.{sameOctets}
-use Rattle.reader.specs.Frame.{frameOk, everyone, nearest}
+use Rattle.tally.proofs.TestsLaws.{both-end, all-fails}
+use Rattle.octets.specs.Address.{sixAt, isGroup}
+use Rattle.reader.specs.Frame.{destinationOk, frameTests, frameOk}
 use Rattle.reader.proofs.frame.frame_fits.Statement.{statement}
 use Rattle.reader.proofs.frame.frame_fits.Tie as tie
 
 returns : tie.Need-returns
 unfolding frameOk
-returns c = rw (lt-leb 14 _ (c .if1 .taken))
+returns c =
+    let f = now (c .before .before .args .f) in
+    sym (all-fails (frameTests f) 0 (lt-leb 14 _ (c .if1 .taken)))
 
 returns-2 : tie.Need-returns-2
 unfolding frameOk
-returns-2 c = rw (le-leb 14 _ (c .before .if1 .left), lt-leb _ 1514 (c .if2 .taken))
+returns-2 c =
+    let f = now (c .before .before .before .args .f) in
+    sym (all-fails (frameTests f) 1 (lt-leb _ 1514 (c .if2 .taken)))
 
 octet-requires : tie.Need-octet-requires
 octet-requires c κs = search needs
@@ -28,7 +31,7 @@ returns-3 : tie.Need-returns-3
 unfolding frameOk
 returns-3 c =
     let f = now (c .before .before .before .before .before .args .f) in
-    rw (le-leb 14 _ (c .before .before .before .if1 .left), le-leb _ 1514 (c .before .before .if2 .left), ne-eqb (getD f 12 0) 0x88 (λ e. c .if3 .taken (c .before .octet .ensures ∙ e)))
+    sym (all-fails (frameTests f) 2 (ne-eqb (getD f 12 0) 0x88 (λ e. c .if3 .taken (c .before .octet .ensures ∙ e))))
 
 octet-requires-2 : tie.Need-octet-requires-2
 octet-requires-2 c κs = search needs
@@ -37,51 +40,47 @@ returns-4 : tie.Need-returns-4
 unfolding frameOk
 returns-4 c =
     let f = now (c .before .before .before .before .before .before .before .args .f) in
-    rw (
-      le-leb 14 _ (c .before .before .before .before .before .if1 .left),
-      le-leb _ 1514 (c .before .before .before .before .if2 .left),
-      eq-eqb (getD f 12 0) 0x88 (sym (c .before .before .before .octet .ensures) ∙ c .before .before .if3 .left),
-      ne-eqb (getD f 13 0) 0xCC (λ e. c .if4 .taken (c .before .octet2 .ensures ∙ e)),
-    )
+    sym (all-fails (frameTests f) 3 (ne-eqb (getD f 13 0) 0xCC (λ e. c .if4 .taken (c .before .octet2 .ensures ∙ e))))
 
 six-requires : tie.Need-six-requires
 six-requires c κs = search needs
 
-same-six-requires : tie.Need-same-six-requires
-same-six-requires c κs = search needs
+destination-fits-requires : tie.Need-destination-fits-requires
+destination-fits-requires c κs = search needs
 
 returns-5 : tie.Need-returns-5
 unfolding frameOk
 returns-5 c =
     let f = now (c .before .before .before .before .before .before .before .before .before .before .args .f) in
-    let asked : c .before .same-six .result ≡ sameOctets (c .before .before .six .result) everyone = c .before .same-six .ensures in
-    rw (
-      le-leb 14 _ (c .before .before .before .before .before .before .before .before .if1 .left),
-      le-leb _ 1514 (c .before .before .before .before .before .before .before .if2 .left),
-      eq-eqb (getD f 12 0) 0x88 (sym (c .before .before .before .before .before .before .octet .ensures) ∙ c .before .before .before .before .before .if3 .left),
-      eq-eqb (getD f 13 0) 0xCC (sym (c .before .before .before .before .octet2 .ensures) ∙ c .before .before .before .if4 .left),
-      ap (λ (a : List ℕ). sameOctets a everyone) (sym (c .before .before .six .ensures)) ∙ sym asked ∙ c .if5 .taken,
-    )
+    let destination : c .before .before .six .result ≡ sixAt f 0 = c .before .before .six .ensures in
+    sym (all-fails (frameTests f) 4 (ap destinationOk (sym destination) ∙ sym (c .before .destination-fits .ensures) ∙ not-true _ (c .if5 .taken)))
 
 six-requires-2 : tie.Need-six-requires-2
 six-requires-2 c κs = search needs
 
-same-six-requires-2 : tie.Need-same-six-requires-2
-same-six-requires-2 c κs = search needs
+is-group-requires : tie.Need-is-group-requires
+is-group-requires c κs = search needs
 
 returns-6 : tie.Need-returns-6
 unfolding frameOk
 returns-6 c =
-    let f = now (c .before .before .before .before .before .before .before .before .before .before .before .before .args .f) in
-    let asked : c .same-six2 .result ≡ sameOctets (c .before .six2 .result) nearest = c .same-six2 .ensures in
+    -- elseN is where test N was passed
+    let else5 = c .before .before in
+    let else4 = else5 .before .before .before in
+    let else3 = else4 .before .before in
+    let else2 = else3 .before .before in
+    let f = now (else2 .before .before .before .args .f) in
+    let destination : else5 .before .before .six .result ≡ sixAt f 0 = else5 .before .before .six .ensures in
+    let source : c .before .six2 .result ≡ sixAt f 6 = c .before .six2 .ensures in
+    let asked : c .is-group .result ≡ isGroup (c .before .six2 .result) = c .is-group .ensures in
     rw (
-      le-leb 14 _ (c .before .before .before .before .before .before .before .before .before .before .if1 .left),
-      le-leb _ 1514 (c .before .before .before .before .before .before .before .before .before .if2 .left),
-      eq-eqb (getD f 12 0) 0x88 (sym (c .before .before .before .before .before .before .before .before .octet .ensures) ∙ c .before .before .before .before .before .before .before .if3 .left),
-      eq-eqb (getD f 13 0) 0xCC (sym (c .before .before .before .before .before .before .octet2 .ensures) ∙ c .before .before .before .before .before .if4 .left),
-      ap (λ (a : List ℕ). sameOctets a everyone) (sym (c .before .before .before .before .six .ensures)) ∙ sym (c .before .before .before .same-six .ensures) ∙ c .before .before .if5 .left,
+      le-leb 14 _ (else2 .before .if1 .left),
+      le-leb _ 1514 (else2 .if2 .left),
+      eq-eqb (getD f 12 0) 0x88 (sym (else3 .before .octet .ensures) ∙ else3 .if3 .left),
+      eq-eqb (getD f 13 0) 0xCC (sym (else4 .before .octet2 .ensures) ∙ else4 .if4 .left),
+      ap destinationOk (sym destination) ∙ sym (else5 .before .destination-fits .ensures) ∙ not-false _ (else5 .if5 .left),
     )
-    (asked ∙ ap (λ (a : List ℕ). sameOctets a nearest) (c .before .six2 .ensures) ∙ sym (both-end _))
+    (ap not (asked ∙ ap isGroup source) ∙ sym (both-end _))
 
 pub frame-fits-spec : {M : Type 1} → statement M
 frame-fits-spec =
@@ -94,8 +93,8 @@ frame-fits-spec =
     octet-requires-2
     returns-4
     six-requires
-    same-six-requires
+    destination-fits-requires
     returns-5
     six-requires-2
-    same-six-requires-2
+    is-group-requires
     returns-6)
