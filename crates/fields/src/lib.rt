@@ -1,8 +1,10 @@
 // Fields: what one TLV behind the first three says, from its own information string and nothing behind it.
 // Port description (type 4) and the TTC fields of subtypes 1 to 3; everything else is skipped.
 ghost use mathlib.Core.Path.{_≡_};
+ghost use Rattle.tally.specs.Tests.{pick};
 ghost use Rattle.fields.specs.Device.{deviceOf};
 ghost use Rattle.fields.specs.Field.{descriptionOf, linkOf, listOf, isTtc, ttcOf, fieldOf};
+ghost use Rattle.fields.specs.declared.Field.the-variants.{Malformed, Says};
 use links::link_fits;
 use octets::octet;
 use strings::Wanted;
@@ -34,20 +36,28 @@ pub enum Field {
     Says { topic: usize, skip: usize },
 }
 
+// The content of a topic, where the field is well formed (A2).
+fn says_if(formed: bool, topic: usize, skip: usize) -> Field
+    ensures { λ r. ⌜ r ≡ pick formed (Says topic skip) Malformed ⌝ }
+{
+    if formed {
+        Field::Says {
+            topic: topic,
+            skip: skip,
+        }
+    } else {
+        Field::Malformed
+    }
+}
+
+// Port description (T10).
 fn description(part: &[u8]) -> Field
     ensures { λ r. ⌜ r ≡ descriptionOf (now (part .entry)) ⌝ }
 {
     if part.len() > 255 {
         return Field::Malformed;
     }
-    if is_text(part) {
-        Field::Says {
-            topic: PORT_DESCRIPTION,
-            skip: 0,
-        }
-    } else {
-        Field::Malformed
-    }
+    says_if(is_text(part), PORT_DESCRIPTION, 0)
 }
 
 // Device information (T2). L is compared before the string's own length is believed.
@@ -91,14 +101,7 @@ fn device(part: &[u8]) -> Field
 fn link(part: &[u8]) -> Field
     ensures { λ r. ⌜ r ≡ linkOf (now (part .entry)) ⌝ }
 {
-    if link_fits(part) {
-        Field::Says {
-            topic: LINK,
-            skip: 4,
-        }
-    } else {
-        Field::Malformed
-    }
+    says_if(link_fits(part), LINK, 4)
 }
 
 // Address list (T8): k, k addresses, and no octet more.
@@ -106,14 +109,7 @@ fn address_list(part: &[u8]) -> Field
     ensures { λ r. ⌜ r ≡ listOf (now (part .entry)) ⌝ }
 {
     let k = octet(part, 4) as usize;
-    if part.len() == 5 + 6 * k {
-        Field::Says {
-            topic: ADDRESS_LIST,
-            skip: 5,
-        }
-    } else {
-        Field::Malformed
-    }
+    says_if(part.len() == 5 + 6 * k, ADDRESS_LIST, 5)
 }
 
 // The organization code E0-27-1A (T1).
