@@ -40,11 +40,11 @@ pub fn cases() -> Vec<Case> {
 pub fn case_file(cases: &[Case]) -> Vec<u8> {
     let mut file = Vec::new();
     for Case { description, text, room, .. } in cases {
-        file.extend(description.chassis);
-        file.push(description.port_subtype);
+        file.extend([description.chassis.subtype, description.port.subtype]);
         file.extend(description.seconds.to_be_bytes());
         for part in [
-            description.port,
+            description.chassis.octets,
+            description.port.octets,
             description.words,
             description.category,
             description.manufacturer,
@@ -126,12 +126,12 @@ mod tests {
         cases().into_iter().filter_map(written).collect()
     }
 
-    /// A record has 175 octets besides its text, whatever is absent.
+    /// A record has 186 octets besides its text, whatever is absent.
     #[test]
     fn the_case_file_has_records_of_known_length() {
         let cases = cases();
         let texts: usize = cases.iter().map(|case| case.text.len()).sum();
-        assert_eq!(case_file(&cases).len(), 175 * cases.len() + texts);
+        assert_eq!(case_file(&cases).len(), 186 * cases.len() + texts);
     }
 
     /// A rule that hardly ever decides would hardly be compared.
@@ -144,7 +144,23 @@ mod tests {
         println!("wrote, 9, 10: {counts:?}");
         assert!(counts[0] >= 300 && counts[1] >= 150 && counts[2] >= 60);
         assert_eq!(counts.iter().sum::<usize>(), cases().len());
-        assert!((700..=900).contains(&cases().len()));
+        assert!((900..=1200).contains(&cases().len()));
+    }
+
+    /// Each kind of chassis (L3) is announced, and says goodbye.
+    #[test]
+    fn no_kind_of_chassis_is_rare() {
+        let written = written();
+        for (subtype, octets) in [(4, 6..=6), (4, 8..=8), (7, 2..=2), (7, 4..=62), (7, 64..=64)] {
+            let of_kind = written.iter().filter(|(_, _, read)| {
+                let chassis = &read.outline.chassis;
+                chassis.subtype == subtype && octets.contains(&chassis.octets.len())
+            });
+            let (goodbyes, others): (Vec<_>, Vec<_>) =
+                of_kind.partition(|(_, _, read)| read.outline.seconds == 0);
+            println!("{subtype} {octets:?}: {} goodbyes, {}", goodbyes.len(), others.len());
+            assert!(!goodbyes.is_empty() && others.len() >= 20);
+        }
     }
 
     #[test]

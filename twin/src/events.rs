@@ -1,5 +1,5 @@
-//! The events: the run cases, frames from group addresses, random sequences of calls on the table,
-//! and spoiled tables.
+//! The events: the run cases, frames from group addresses, neighbours much like each other, random
+//! sequences of calls on the table, and spoiled tables.
 //! The case file and the text that is expected for it are made here.
 //!
 //! A spoiled table is made in this way. Events have led to a table that is fit, and it is kept.
@@ -8,6 +8,7 @@
 //! makes. Then the kept table is taken back, so that many are spoiled after one sequence.
 
 mod bench;
+mod chassis;
 mod desk;
 mod maker;
 mod random;
@@ -56,6 +57,7 @@ pub fn events() -> Vec<Event> {
     let mut maker = Maker::new();
     maker.bench();
     maker.frames_from_group_addresses();
+    maker.chassis();
     maker.sequences();
     maker.events
 }
@@ -109,7 +111,8 @@ pub fn expected(events: &[Event]) -> String {
 pub(crate) mod tests {
     use super::*;
     use crate::frames::blocks::{from_a_group, from_a_station, HEADER};
-    use crate::table::BUFFER_OCTETS;
+    use crate::id::Id;
+    use crate::table::{octets_of, BUFFER_OCTETS};
     use std::sync::OnceLock;
 
     /// Made once for all tests, since the digests take their time.
@@ -215,23 +218,75 @@ pub(crate) mod tests {
         assert!(counts.iter().all(|&(_, count)| count >= 3));
     }
 
-    /// Each table breaks the one condition of N5 that it was spoiled to break.
-    #[test]
-    fn each_table_is_spoiled_in_its_way_alone() {
+    /// Looks at each spoiled table before its calls.
+    fn at_each_trial(mut look: impl FnMut(&Desk, &Trial)) {
         let mut desk = Desk::new();
-        let mut counts = Way::ALL.map(|_| 0);
         for event in &stored().0 {
-            if let Event::Spoiled(Trial { way, .. }) = event {
-                assert_eq!(desk.table.breaches(desk.buffer()), [way.letter()], "{event:?}");
-                counts[*way as usize] += 1;
+            if let Event::Spoiled(trial) = event {
+                look(&desk, trial);
                 desk.take_back();
                 assert!(desk.table.breaches(desk.buffer()).is_empty());
             } else {
                 desk.act(event);
             }
         }
+    }
+
+    /// Each table breaks the one condition of N5 that it was spoiled to break.
+    #[test]
+    fn each_table_is_spoiled_in_its_way_alone() {
+        let mut counts = Way::ALL.map(|_| 0);
+        at_each_trial(|desk, trial| {
+            assert_eq!(desk.table.breaches(desk.buffer()), [trial.way.letter()], "{trial:?}");
+            counts[trial.way as usize] += 1;
+        });
         println!("{counts:?}");
         assert!(counts.iter().all(|&count| count >= 300));
+    }
+
+    /// A chassis at a place is wrong in each way that L3 names.
+    #[test]
+    fn no_wrong_chassis_is_rare() {
+        let mut counts = [0; 5];
+        at_each_trial(|desk, trial| {
+            if trial.way == Way::WrongChassis {
+                let unsound = |&place: &usize| desk.table.outline(desk.buffer(), place).is_none();
+                let place = desk.table.used().find(unsound).expect("a place is not sound");
+                // Behind the first octet: L, subtype, and then the octets (L1, L3).
+                counts[match desk.buffer()[octets_of(place)][1..] {
+                    [8, 4, ..] => 0,
+                    [_, 4, ..] => 1,
+                    [length, 7, ..] if length % 2 == 0 => 2,
+                    [_, 7, ..] => 3,
+                    _ => 4,
+                }] += 1;
+            }
+        });
+        println!("L = 8, other L, odd number, character, subtype: {counts:?}");
+        assert!(counts.iter().all(|&count| count >= 20));
+    }
+
+    /// A neighbour stands twice with each kind of chassis (L3).
+    #[test]
+    fn no_kind_of_twins_is_rare() {
+        let mut counts = [0; 3];
+        at_each_trial(|desk, trial| {
+            if trial.way == Way::IdentityTwice {
+                let identity = |place| {
+                    let outline = desk.table.outline(desk.buffer(), place);
+                    outline.map(|read| (desk.table.port[place], read.chassis, read.port))
+                };
+                let all: Vec<_> = desk.table.used().filter_map(identity).collect();
+                let twin = all.iter().zip(1..).find(|(one, i)| all[*i..].contains(one));
+                let ((_, chassis, _), _) = twin.expect("an identity stands twice");
+                counts[match chassis {
+                    Id { subtype: 4, octets } => octets.len() / 2 - 3,
+                    _ => 2,
+                }] += 1;
+            }
+        });
+        println!("six octets, eight octets, local: {counts:?}");
+        assert!(counts.iter().all(|&count| count >= 20));
     }
 
     /// All but Start refuse a spoiled table; Start refuses where the length of the buffer is wrong.

@@ -2,10 +2,12 @@
 //! The case file and the text that is expected for it are made here.
 
 pub(crate) mod blocks;
+mod chassis;
 pub(crate) mod maker;
 mod random;
 mod rules;
 
+use crate::id::Id;
 use crate::reader::{
     name_link, outline_frame, outline_lldpdu, read_frame, read_lldpdu, Address, Naming, Outline,
     Reading, Refusal,
@@ -89,13 +91,12 @@ fn outline_text(outline: &Outline) -> String {
 }
 
 fn identity_text(outline: &Outline) -> String {
-    format!(
-        "{} {} {} {}",
-        hex(&outline.chassis),
-        outline.port_subtype,
-        hex(&outline.port),
-        outline.seconds
-    )
+    format!("{} {} {}", id_text(&outline.chassis), id_text(&outline.port), outline.seconds)
+}
+
+/// The subtype as a number, then the octets.
+fn id_text(id: &Id) -> String {
+    format!("{} {}", id.subtype, hex(&id.octets))
 }
 
 pub(crate) fn reading_text(reading: &Reading) -> String {
@@ -153,9 +154,9 @@ mod tests {
         let frames = cases.iter().filter(|case| case.kind == Kind::Frame).count();
         let bare = cases.len() - frames;
         println!("{} cases, {frames} frames, {bare} bare", cases.len());
-        assert!((2400..=3200).contains(&cases.len()));
-        assert!(frames >= 2100);
-        assert!(bare >= 200);
+        assert!((3000..=4000).contains(&cases.len()));
+        assert!(frames >= 2400);
+        assert!(bare >= 600);
     }
 
     /// A rule that hardly ever decides would hardly be compared.
@@ -171,6 +172,9 @@ mod tests {
             ("htip no", lines(&|w| w[0] == "reading" && w.get(3) == Some(&"no"))),
             ("naming hit", lines(&|w| w[0] == "naming" && w.len() == 5)),
             ("naming none", lines(&|w| w == ["naming", "none"])),
+            ("six octets", lines(&|w| w[..2] == ["outline", "valid"] && is_address(w, 6))),
+            ("eight octets", lines(&|w| w[..2] == ["outline", "valid"] && is_address(w, 8))),
+            ("local", lines(&|w| w[..2] == ["outline", "valid"] && w[3] == "7")),
         ];
         for number in ["3", "4", "5", "6"] {
             counts.push((number, lines(&|w| w == ["reading", "refused", number])));
@@ -181,6 +185,11 @@ mod tests {
         counts.push(("3 for the source", cases.iter().filter(|case| source_alone(case)).count()));
         println!("{counts:?}");
         assert!(counts.iter().all(|&(_, count)| count >= 20));
+    }
+
+    /// The chassis of an outline is an address of so many octets (L3).
+    fn is_address(words: &[&str], octets: usize) -> bool {
+        words[3] == "4" && words[4].len() == 2 * octets
     }
 
     /// The frame gets 3, and from another source it does not (F4).

@@ -4,6 +4,7 @@
 pub mod announcements;
 pub mod events;
 pub mod frames;
+pub mod id;
 mod numbers;
 pub mod reader;
 pub mod rng;
@@ -46,12 +47,12 @@ mod tests {
             ["frames", "announcements"].map(|kind| files(kind).expect("there is such a kind"));
         let (events, text_of_events) = events::tests::stored();
         let sizes = [
-            (frames.0.len(), 600_000),
-            (frames.1.len(), 1_300_000),
-            (announcements.0.len(), 400_000),
-            (announcements.1.len(), 1_500_000),
-            (events::case_file(events).len(), 2_000_000),
-            (text_of_events.len(), 900_000),
+            (frames.0.len(), 399_999),
+            (frames.1.len(), 500_000),
+            (announcements.0.len(), 399_999),
+            (announcements.1.len(), 600_000),
+            (events::case_file(events).len(), 899_999),
+            (text_of_events.len(), 800_000),
         ];
         println!("octets of cases and of text, and the most there may be: {sizes:?}");
         assert!(sizes.iter().all(|(octets, most)| octets <= most));

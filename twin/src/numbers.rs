@@ -9,6 +9,10 @@ pub const SECONDS: u8 = 3;
 pub const DESCRIPTION: u8 = 4;
 pub const ORGANIZATION: u8 = 127;
 
+/// Subtypes of a chassis ID (L3).
+pub const ADDRESS: u8 = 4;
+pub const LOCAL: u8 = 7;
+
 /// The code of TTC, and the subtypes of its fields (T1, T2, T7, T8).
 pub const TTC: [u8; 3] = [0xE0, 0x27, 0x1A];
 pub const DEVICE: u8 = 1;

@@ -3,6 +3,7 @@
 
 use std::ops::RangeInclusive;
 
+use crate::id::Id;
 use crate::numbers::*;
 
 /// A refusal number: 3 to 6 for a frame, 4 to 6 for a bare LLDPDU (A1). The table adds 1, 2, 7 and
@@ -27,9 +28,8 @@ const LLDP_TYPE: [u8; 2] = [0x88, 0xCC];
 pub struct Outline {
     /// Octets of the LLDPDU through its End TLV; padding is not counted (L8).
     pub length: usize,
-    pub chassis: Address,
-    pub port_subtype: u8,
-    pub port: Vec<u8>,
+    pub chassis: Id,
+    pub port: Id,
     pub seconds: u16,
 }
 
@@ -189,8 +189,8 @@ struct Parts {
 impl Parts {
     fn of(lldpdu: &[u8]) -> Result<Parts, Refusal> {
         let mut rest = lldpdu;
-        let chassis = chassis_of(&take_tlv(&mut rest)?).ok_or(BAD_LEADING_TLV)?;
-        let (port_subtype, port) = port_of(&take_tlv(&mut rest)?).ok_or(BAD_LEADING_TLV)?;
+        let chassis = id_of(CHASSIS, &take_tlv(&mut rest)?).ok_or(BAD_LEADING_TLV)?;
+        let port = id_of(PORT, &take_tlv(&mut rest)?).ok_or(BAD_LEADING_TLV)?;
         let seconds = seconds_of(&take_tlv(&mut rest)?).ok_or(BAD_LEADING_TLV)?;
         let mut later = Vec::new();
         loop {
@@ -204,26 +204,15 @@ impl Parts {
         }
         // What is left is padding (L8).
         let length = lldpdu.len() - rest.len();
-        Ok(Parts { outline: Outline { length, chassis, port_subtype, port, seconds }, later })
+        Ok(Parts { outline: Outline { length, chassis, port, seconds }, later })
     }
 }
 
-/// Subtype 4, then a chassis address of six octets (L3).
-fn chassis_of(tlv: &Tlv) -> Option<Address> {
-    match (tlv.kind, tlv.value.split_first()) {
-        (CHASSIS, Some((4, address))) => address.try_into().ok(),
-        _ => None,
-    }
-}
-
-/// Subtype 1 to 7, then at least one octet; L of 256 leaves room for 255 (L4).
-fn port_of(tlv: &Tlv) -> Option<(u8, Vec<u8>)> {
-    match (tlv.kind, tlv.value.split_first()) {
-        (PORT, Some((&subtype @ 1..=7, octets))) if (1..=255).contains(&octets.len()) => {
-            Some((subtype, octets.to_vec()))
-        }
-        _ => None,
-    }
+/// The ID of a TLV of this type: a subtype, then octets up to the end of the TLV (L3, L4).
+fn id_of(kind: u8, tlv: &Tlv) -> Option<Id> {
+    let (&subtype, octets) = tlv.value.split_first()?;
+    let id = Id { subtype, octets: octets.to_vec() };
+    (tlv.kind == kind && id.may_stand_in(kind)).then_some(id)
 }
 
 /// Two octets, high octet first (L5).

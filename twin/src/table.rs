@@ -3,6 +3,7 @@
 
 use std::ops::Range;
 
+use crate::id::Id;
 use crate::reader::{name_link, outline_frame, outline_lldpdu, Address, Naming, Outline, Refusal};
 
 pub const PLACES: usize = 32;
@@ -47,23 +48,17 @@ pub struct Sighting {
     pub naming: Naming,
 }
 
-/// Chassis alone is not enough (N2).
+/// Chassis alone is not enough, and of both IDs the subtype and the number of octets count (N2).
 #[derive(Clone, Debug, PartialEq, Eq)]
 struct Identity {
     receiving_port: u8,
-    chassis: Address,
-    port_subtype: u8,
-    port: Vec<u8>,
+    chassis: Id,
+    port: Id,
 }
 
 impl Identity {
     fn of(receiving_port: u8, outline: &Outline) -> Identity {
-        Identity {
-            receiving_port,
-            chassis: outline.chassis,
-            port_subtype: outline.port_subtype,
-            port: outline.port.clone(),
-        }
+        Identity { receiving_port, chassis: outline.chassis.clone(), port: outline.port.clone() }
     }
 }
 

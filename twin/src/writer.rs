@@ -1,8 +1,9 @@
 //! The writer: a description, its strings being parts of a text, becomes an LLDPDU or a refusal.
 //! The LLDPDU is put together whole and only then held against the room, so that 9 comes before 10.
 
+use crate::id::Id;
 use crate::numbers::*;
-use crate::reader::{Address, Refusal};
+use crate::reader::Refusal;
 
 const BREAKS_A_RULE: Refusal = 9;
 const NO_ROOM: Refusal = 10;
@@ -14,10 +15,9 @@ const LONGEST_VALUE: usize = 511;
 /// is empty (A2), but an absent table is not an empty one (A3).
 #[derive(Clone, Debug, PartialEq, Eq)]
 pub struct Description<S = Part> {
-    pub chassis: Address,
-    pub port_subtype: u8,
+    pub chassis: Id<S>,
+    pub port: Id<S>,
     pub seconds: u16,
-    pub port: S,
     /// The port description.
     pub words: S,
     pub category: S,
@@ -58,10 +58,9 @@ impl<S> Description<S> {
     /// The same with each string turned into something else, front to back; None if one cannot be.
     pub fn with<T>(&self, mut turned: impl FnMut(&S) -> Option<T>) -> Option<Description<T>> {
         Some(Description {
-            chassis: self.chassis,
-            port_subtype: self.port_subtype,
+            chassis: self.chassis.with(&mut turned)?,
+            port: self.port.with(&mut turned)?,
             seconds: self.seconds,
-            port: turned(&self.port)?,
             words: turned(&self.words)?,
             category: turned(&self.category)?,
             manufacturer: turned(&self.manufacturer)?,
@@ -105,8 +104,8 @@ fn lldpdu(description: &Description<&[u8]>) -> Option<Vec<u8>> {
         _ => later_tlvs(description)?,
     };
     let whole = [
-        tlv(CHASSIS, &[&[4], &description.chassis])?,
-        port_tlv(description.port_subtype, description.port)?,
+        id_tlv(CHASSIS, &description.chassis)?,
+        id_tlv(PORT, &description.port)?,
         tlv(SECONDS, &[&description.seconds.to_be_bytes()])?,
         later,
         tlv(END, &[])?,
@@ -156,12 +155,12 @@ fn if_any(string: &[u8], tlv: impl Fn(&[u8]) -> Option<Vec<u8>>) -> Option<Vec<u
     }
 }
 
-/// Subtype 1 to 7 and 1 to 255 octets, taken as they are (L4).
-fn port_tlv(subtype: u8, octets: &[u8]) -> Option<Vec<u8>> {
-    if !(1..=7).contains(&subtype) || !(1..=255).contains(&octets.len()) {
+/// A subtype, then octets, taken as they are (L3, L4).
+fn id_tlv(kind: u8, id: &Id<&[u8]>) -> Option<Vec<u8>> {
+    if !id.may_stand_in(kind) {
         return None;
     }
-    tlv(PORT, &[&[subtype], octets])
+    tlv(kind, &[&[id.subtype], id.octets])
 }
 
 /// At most 255 octets, each of them one of the allowed characters (T10).

@@ -1,9 +1,9 @@
-//! The bench frames B1 to B12, the source (F4) and the readings of open points, as ordinary tests.
+//! The bench frames, the source (F4), the chassis (L3) and the readings of open points, as tests.
 //! Octets and expected values are typed from the rules page by hand, never taken from the program.
 
 mod page;
 
-use page::{A, FRAME_A, HEADER};
+use page::*;
 use twin::reader::*;
 
 /// Where the TLVs of frame A begin.
@@ -40,9 +40,8 @@ fn reading_of_a() -> Reading {
     Reading {
         outline: Outline {
             length: 37,
-            chassis: [0x02, 0x00, 0x00, 0x00, 0x00, 0x01],
-            port_subtype: 7,
-            port: vec![0x31],
+            chassis: id(4, &[0x02, 0x00, 0x00, 0x00, 0x00, 0x01]),
+            port: id(7, &[0x31]),
             seconds: 120,
         },
         htip: true,
@@ -136,6 +135,121 @@ fn p12_string_length_beyond_the_tlv() {
 }
 
 #[test]
+fn p14_a_chassis_of_eight_octets() {
+    let first = [0x02, 0x09, 0x04, 0x02, 0x00, 0x00, 0xFF, 0xFE, 0x00, 0x00, 0x01];
+    let mut expected = reading_of_a();
+    expected.outline.length = 39;
+    expected.outline.chassis = id(4, &[0x02, 0x00, 0x00, 0xFF, 0xFE, 0x00, 0x00, 0x01]);
+    let frame = replaced(FIRST, SECOND, &first);
+    assert_eq!(read_frame(&frame), Ok(expected.clone()));
+    assert_eq!(outline_lldpdu(&frame[14..]), Ok(expected.outline));
+}
+
+#[test]
+fn p15_one_local_pair() {
+    let first = [0x02, 0x03, 0x07, 0x41, 0x46];
+    let mut expected = reading_of_a();
+    expected.outline.length = 33;
+    expected.outline.chassis = id(7, b"AF");
+    let frame = replaced(FIRST, SECOND, &first);
+    assert_eq!(read_frame(&frame), Ok(expected.clone()));
+    assert_eq!(outline_lldpdu(&frame[14..]), Ok(expected.outline));
+}
+
+#[test]
+fn p16_33_local_pairs() {
+    let first = [&[0x02, 0x43, 0x07][..], &[0x30; 66]].concat();
+    assert_eq!(read_frame(&replaced(FIRST, SECOND, &first)), Err(4));
+    // 32 are not too many: L is 65.
+    let first = [&[0x02, 0x41, 0x07][..], &[0x30; 64]].concat();
+    assert_eq!(reading(&replaced(FIRST, SECOND, &first)).outline.length, 95);
+}
+
+/// Frame A with another chassis ID.
+fn with_chassis(first: &[u8]) -> Vec<u8> {
+    replaced(FIRST, SECOND, first)
+}
+
+#[test]
+fn what_is_a_chassis() {
+    for chassis in right_chassis() {
+        let frame = with_chassis(&first_tlv(chassis.subtype, &chassis.octets));
+        let mut expected = reading_of_a();
+        expected.outline.length = 31 + chassis.octets.len();
+        expected.outline.chassis = chassis;
+        assert_eq!(read_frame(&frame), Ok(expected.clone()));
+        assert_eq!(outline_frame(&frame), Ok(expected.outline));
+    }
+    for chassis in wrong_chassis() {
+        let first = first_tlv(chassis.subtype, &chassis.octets);
+        let frame = with_chassis(&first);
+        assert_eq!(read_frame(&frame), Err(4), "{chassis:?}");
+        assert_eq!(outline_lldpdu(&frame[14..]), Err(4));
+        assert_eq!(name_link(&frame[14..], NO_STATION), Err(4));
+        // 5 goes before 4 where the chassis ID is not there to its end (R11).
+        for cut in [1, first.len() - 2, first.len() - 1] {
+            assert_eq!(read_frame(&frame[..14 + cut]), Err(5));
+        }
+        // What is wrong behind it does not decide.
+        assert_eq!(read_frame(&frame[..14 + first.len()]), Err(4));
+        assert_eq!(read_frame(&[&frame[..14 + first.len()], &[0x04, 0x02, 0x07]].concat()), Err(4));
+    }
+    // No subtype; and L that is right but for its ninth bit.
+    assert_eq!(read_frame(&with_chassis(&[0x02, 0x00])), Err(4));
+    for (low, subtype) in [(7u8, 4), (9, 4), (3, 7), (65, 7)] {
+        let octets = vec![0x30; 256 + usize::from(low) - 1];
+        assert_eq!(
+            read_frame(&with_chassis(&[&[0x03, low, subtype], &octets[..]].concat())),
+            Err(4)
+        );
+    }
+}
+
+#[test]
+fn the_characters_of_a_local_chassis() {
+    for octet in 0..=255 {
+        let is_right = b"0123456789ABCDEF".contains(&octet);
+        for octets in [[octet, b'7'], [b'B', octet]] {
+            let due = if is_right { Ok(id(7, &octets)) } else { Err(4) };
+            let read = outline_frame(&with_chassis(&first_tlv(7, &octets)));
+            assert_eq!(read.map(|outline| outline.chassis), due);
+        }
+        // In an address any octet will do.
+        let octets = [octet; 6];
+        let read = outline_frame(&with_chassis(&first_tlv(4, &octets)));
+        assert_eq!(read.map(|outline| outline.chassis), Ok(id(4, &octets)));
+    }
+}
+
+#[test]
+fn the_port_id_begins_where_the_chassis_id_ends() {
+    for pairs in 1..=32 {
+        let octets = vec![0x43; 2 * pairs];
+        let read = reading(&with_chassis(&first_tlv(7, &octets)));
+        assert_eq!(read.outline.port, id(7, &[0x31]));
+        assert_eq!(read.outline.seconds, 120);
+        assert_eq!(read.outline.length, 31 + 2 * pairs);
+        assert!(read.htip);
+    }
+    // Behind six of the eight octets another port ID and other seconds would stand.
+    let first = [0x02, 0x09, 0x04, 0x02, 0x00, 0x00, 0x00, 0x00, 0x01, 0x04, 0x02];
+    let second = [0x04, 0x04, 0x06, 0x02, 0x00, 0x79];
+    let read = reading(&replaced(FIRST, THIRD, &[&first[..], &second].concat()));
+    assert_eq!(read.outline.chassis, id(4, &[0x02, 0x00, 0x00, 0x00, 0x00, 0x01, 0x04, 0x02]));
+    assert_eq!(read.outline.port, id(6, &[0x02, 0x00, 0x79]));
+    assert_eq!(read.outline.seconds, 120);
+}
+
+#[test]
+fn a_second_chassis_of_any_kind() {
+    for chassis in right_chassis() {
+        let again = first_tlv(chassis.subtype, &chassis.octets);
+        assert_eq!(read_frame(&before_end(&again)), Err(6));
+        assert_eq!(read_frame(&[&FRAME_A[..END], &again[..again.len() - 1]].concat()), Err(5));
+    }
+}
+
+#[test]
 fn both_destinations_and_no_other() {
     assert_eq!(read_frame(&replaced(0, 6, &NEAREST)), Ok(reading_of_a()));
     let near = [0x01, 0x80, 0xC2, 0x00, 0x00, 0x00];
@@ -195,7 +309,7 @@ fn the_source_goes_before_the_tlvs() {
 fn only_the_source_must_be_no_group_address() {
     // As the chassis, in a frame and bare.
     let mut expected = reading_of_a();
-    expected.outline.chassis = NO_STATION;
+    expected.outline.chassis = id(4, &NO_STATION);
     let frame = replaced(FIRST + 3, SECOND, &NO_STATION);
     assert_eq!(read_frame(&frame), Ok(expected.clone()));
     assert_eq!(read_lldpdu(&frame[14..]), Ok(expected));
@@ -216,7 +330,7 @@ fn a_bare_lldpdu_has_no_source() {
     let mut bare = A;
     bare[6] = 0x03;
     let mut expected = reading_of_a();
-    expected.outline.chassis = [0x02, 0x00, 0x00, 0x03, 0x00, 0x01];
+    expected.outline.chassis = id(4, &[0x02, 0x00, 0x00, 0x03, 0x00, 0x01]);
     assert_eq!(read_lldpdu(&bare), Ok(expected.clone()));
     assert_eq!(outline_lldpdu(&bare), Ok(expected.outline));
 }

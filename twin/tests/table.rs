@@ -3,7 +3,8 @@
 
 mod page;
 
-use page::{A, HEADER};
+use page::*;
+use twin::id::Id;
 use twin::reader::{Counted, Naming, Refusal};
 use twin::table::{Reply, Sighting, Table};
 
@@ -39,6 +40,12 @@ fn neighbour(number: u8) -> Vec<u8> {
 fn goodbye(number: u8) -> Vec<u8> {
     let whole = lldpdu(&[(CHASSIS, number), (SECONDS_LOW, 0)]);
     [&HEADER[..], &whole[..17], &[0x00, 0x00]].concat()
+}
+
+/// A with another chassis, and with seconds up to 255.
+fn announced(chassis: &Id, seconds: u8) -> Vec<u8> {
+    let first = first_tlv(chassis.subtype, &chassis.octets);
+    [&first, &A[9..SECONDS_LOW], &[seconds], &A[17..]].concat()
 }
 
 /// The frame with the source 03-00-00-00-00-01, a group address (F4).
@@ -113,6 +120,11 @@ impl Watch {
         let (kept, behind) = self.buffer[1500 * place..1500 * (place + 1)].split_at(octets.len());
         assert_eq!(kept, octets);
         assert!(behind.iter().all(|&octet| octet == 0));
+    }
+
+    /// Hears A with another chassis and other seconds on port 3.
+    fn hears(&mut self, chassis: &Id, seconds: u8) -> Result<Reply, Refusal> {
+        self.frame(3, &[&HEADER[..], &announced(chassis, seconds)].concat())
     }
 
     /// Calls that answer with a refusal leave everything as it was (R12).
@@ -257,6 +269,94 @@ fn what_makes_an_identity() {
     other[..12].copy_from_slice(&[0x01, 0x80, 0xC2, 0x00, 0x00, 0x0E, 8, 9, 9, 9, 9, 9]);
     assert_eq!(watch.frame(0, &other), Ok(Refreshed));
     watch.has(0, 0, 0xFF78, &other[14..]);
+}
+
+/// Six chassis that are much alike: in all octets, in the first or last ones, or spelled (N2).
+fn much_alike() -> [[Id; 6]; 3] {
+    let mut other_end = [0x30; 64];
+    other_end[63] = 0x46;
+    [
+        [
+            id(4, b"ABCDEF"),
+            id(7, b"ABCDEF"),
+            id(4, b"ABCDEF01"),
+            id(7, b"ABCDEF01"),
+            id(7, b"ABCD"),
+            id(7, b"414243444546"),
+        ],
+        [
+            id(4, &[0x02, 0x00, 0x00, 0x00, 0x00, 0x01]),
+            id(7, b"020000000001"),
+            id(4, &[0x02, 0x00, 0x00, 0x00, 0x00, 0x01, 0x00, 0x00]),
+            id(7, b"0200000000010000"),
+            id(4, &[0x02, 0x00, 0x00, 0x00, 0x00, 0x01, 0x00, 0x01]),
+            id(4, &[0x00, 0x00, 0x02, 0x00, 0x00, 0x00, 0x00, 0x01]),
+        ],
+        [
+            id(7, &[0x30; 64]),
+            id(7, &other_end),
+            id(7, &[0x30; 62]),
+            id(7, &[0x30; 2]),
+            id(7, &[0x30; 6]),
+            id(4, &[0x30; 6]),
+        ],
+    ]
+}
+
+#[test]
+fn chassis_of_each_kind_are_told_apart() {
+    for crowd in much_alike() {
+        let mut watch = Watch::started();
+        for (chassis, place) in crowd.iter().zip(0..) {
+            assert_eq!(watch.hears(chassis, 0), Ok(UnknownGoodbye));
+            assert_eq!(watch.hears(chassis, 120), Ok(Recorded));
+            watch.has(place, 3, 120, &announced(chassis, 120));
+        }
+        let all = watch.clone();
+        for (chassis, place) in crowd.iter().zip(0..) {
+            // A refresh changes this one alone.
+            assert_eq!(watch.hears(chassis, 99), Ok(Refreshed));
+            watch.has(place, 3, 99, &announced(chassis, 99));
+            assert_eq!(watch.hears(chassis, 120), Ok(Refreshed));
+            assert_eq!(watch, all);
+            // So does a goodbye, and the place is the lowest free one then.
+            assert_eq!(watch.hears(chassis, 0), Ok(Gone));
+            watch.has(place, 0, 0, &[]);
+            assert_eq!(watch.holds(3), Ok(5));
+            assert_eq!(watch.hears(chassis, 0), Ok(UnknownGoodbye));
+            assert_eq!(watch.hears(chassis, 120), Ok(Recorded));
+            assert_eq!(watch, all);
+        }
+    }
+}
+
+#[test]
+fn what_the_chassis_has_more_the_port_id_has_fewer() {
+    let mut watch = Watch::started();
+    for (place, octets) in [
+        &[0x02, 0x03, 0x07, 0x41, 0x41, 0x04, 0x05, 0x07, 0x41, 0x41, 0x41, 0x41],
+        &[0x02, 0x05, 0x07, 0x41, 0x41, 0x41, 0x41, 0x04, 0x03, 0x07, 0x41, 0x41],
+    ]
+    .into_iter()
+    .enumerate()
+    {
+        let lldpdu = [&octets[..], &A[13..]].concat();
+        assert_eq!(watch.frame(3, &[&HEADER[..], &lldpdu].concat()), Ok(Recorded));
+        watch.has(place, 3, 120, &lldpdu);
+    }
+}
+
+#[test]
+fn a_wrong_chassis_changes_nothing() {
+    let mut watch = Watch::started();
+    for chassis in &right_chassis()[..6] {
+        assert_eq!(watch.hears(chassis, 120), Ok(Recorded));
+    }
+    for chassis in wrong_chassis() {
+        for seconds in [0, 120] {
+            watch.refuses(4, |watch| watch.hears(&chassis, seconds).err());
+        }
+    }
 }
 
 #[test]
@@ -554,6 +654,31 @@ fn no_identity_may_stand_twice() {
         spoiled(|watch| write(watch, place, 2, &lldpdu(&[(CHASSIS, 21), (15, 1), (25, 0x42)])));
         let mut watch = Watch::holding(&[(2, 1)]);
         write(&mut watch, place, 3, &lldpdu(&[(CHASSIS, 21)]));
+        assert!(watch.is_fit());
+    }
+}
+
+#[test]
+fn a_chassis_that_is_kept_must_be_right() {
+    for chassis in right_chassis() {
+        let record = announced(&chassis, 120);
+        let mut watch = Watch::holding(&[(2, 1)]);
+        write(&mut watch, 1, 3, &record);
+        assert!(watch.is_fit());
+        // It may not stand twice.
+        spoiled(|watch| {
+            write(watch, 1, 3, &record);
+            write(watch, 31, 3, &record);
+        });
+    }
+    for chassis in wrong_chassis() {
+        spoiled(|watch| write(watch, 1, 3, &announced(&chassis, 120)));
+    }
+    for crowd in much_alike() {
+        let mut watch = Watch::holding(&[(2, 1)]);
+        for (chassis, place) in crowd.iter().zip(1..) {
+            write(&mut watch, place, 3, &announced(chassis, 120));
+        }
         assert!(watch.is_fit());
     }
 }

@@ -3,12 +3,13 @@
 
 mod page;
 
-use page::{A, HEADER};
+use page::*;
+use twin::id::Id;
 use twin::reader::{read_frame, read_lldpdu, Link};
 use twin::writer::*;
 
 /// What frame A says, as parts of this text.
-const TEXT_OF_A: &[u8] = b"1A7";
+const TEXT_OF_A: &[u8] = b"1A7\x02\x00\x00\x00\x00\x01";
 
 fn part(start: u64, len: u64) -> Part {
     Part { start, len }
@@ -16,10 +17,9 @@ fn part(start: u64, len: u64) -> Part {
 
 fn description_of_a() -> Description {
     Description {
-        chassis: [0x02, 0x00, 0x00, 0x00, 0x00, 0x01],
-        port_subtype: 7,
+        chassis: Id { subtype: 4, octets: part(3, 6) },
+        port: Id { subtype: 7, octets: part(0, 1) },
         seconds: 120,
-        port: part(0, 1),
         words: part(0, 0),
         category: part(1, 1),
         manufacturer: part(0, 0),
@@ -71,6 +71,15 @@ fn goodbye_of_a() -> Vec<u8> {
     [&A[..15], &[0x00, 0x00], &A[35..]].concat()
 }
 
+/// Frame A with another chassis.
+fn with_chassis(chassis: &Id) -> Result<Vec<u8>, u8> {
+    written(|description, text| description.chassis = put_id(text, chassis))
+}
+
+fn put_id(text: &mut Vec<u8>, id: &Id) -> Id<Part> {
+    Id { subtype: id.subtype, octets: put(text, &id.octets) }
+}
+
 /// All but chassis and port ID absent, and then changed.
 fn goodbye(change: impl FnOnce(&mut Description, &mut Vec<u8>)) -> Result<Vec<u8>, u8> {
     written(|description, text| {
@@ -89,13 +98,15 @@ fn frame_a_octet_for_octet() {
 #[test]
 fn everything_in_its_order() {
     // W1, each TLV typed by hand; one text for all, with octets that belong to nothing.
-    let text =
-        b"__eth0/1 TV0A1B2CLampX-9\x06\x00\x03\x02\x00\x00\x00\x00\x11\x02\x00\x00\x00\x00\x12";
+    let text = [
+        &b"__eth0/1 TV0A1B2CLampX-9\x06\x00\x03"[..],
+        b"\x02\x00\x00\x00\x00\x11\x02\x00\x00\x00\x00\x12_\xAA\xBB\xCC\xDD\xEE\xFF",
+    ]
+    .concat();
     let description = Description {
-        chassis: [0xAA, 0xBB, 0xCC, 0xDD, 0xEE, 0xFF],
-        port_subtype: 5,
+        chassis: Id { subtype: 4, octets: part(40, 6) },
+        port: Id { subtype: 5, octets: part(2, 4) },
         seconds: 0x1234,
-        port: part(2, 4),
         words: part(6, 2),
         category: part(9, 2),
         manufacturer: part(11, 6),
@@ -123,15 +134,14 @@ fn everything_in_its_order() {
         &[0x00, 0x00],
     ]
     .concat();
-    assert_eq!(write(&description, text, expected.len()), Ok(expected.clone()));
+    assert_eq!(write(&description, &text, expected.len()), Ok(expected.clone()));
 
     // Behind a header it reads back as the description, and it is HTIP (W6).
     let reading = read_frame(&[&HEADER[..], &expected].concat()).expect("the frame is valid");
     assert!(reading.htip);
     assert_eq!(reading.outline.length, 110);
-    assert_eq!(reading.outline.chassis, [0xAA, 0xBB, 0xCC, 0xDD, 0xEE, 0xFF]);
-    assert_eq!(reading.outline.port_subtype, 5);
-    assert_eq!(reading.outline.port, b"eth0");
+    assert_eq!(reading.outline.chassis, id(4, &[0xAA, 0xBB, 0xCC, 0xDD, 0xEE, 0xFF]));
+    assert_eq!(reading.outline.port, id(5, b"eth0"));
     assert_eq!(reading.outline.seconds, 0x1234);
     assert_eq!(reading.description, b"/1");
     assert_eq!(reading.category, b"TV");
@@ -145,9 +155,12 @@ fn everything_in_its_order() {
 
 #[test]
 fn nine_before_ten() {
-    let broken = Description { port_subtype: 8, ..description_of_a() };
+    let mut broken = [description_of_a(), description_of_a(), description_of_a()];
+    broken[0].port.subtype = 8;
+    broken[1].chassis.subtype = 5;
+    broken[2].chassis.octets.len = 5;
     for room in [0, 1, 36, 37, 1600] {
-        assert_eq!(write(&broken, TEXT_OF_A, room), Err(9));
+        assert!(broken.iter().all(|broken| write(broken, TEXT_OF_A, room) == Err(9)));
     }
     for room in [0, 1, 2, 35, 36] {
         assert_eq!(write(&description_of_a(), TEXT_OF_A, room), Err(10));
@@ -196,12 +209,49 @@ fn seconds_0_and_nothing_else() {
 
 #[test]
 fn seconds_0_keeps_the_rules_of_the_port_id() {
-    assert_eq!(goodbye(|description, _| description.port_subtype = 0), Err(9));
-    assert_eq!(goodbye(|description, _| description.port_subtype = 8), Err(9));
-    assert_eq!(goodbye(|description, _| description.port.len = 0), Err(9));
-    let longest = goodbye(|description, text| description.port = put(text, &[0; 255]));
-    assert_eq!(longest.map(|lldpdu| lldpdu.len()), Ok(19 + 254));
-    assert_eq!(goodbye(|description, text| description.port = put(text, &[0; 256])), Err(9));
+    assert_eq!(goodbye(|description, _| description.port.subtype = 0), Err(9));
+    assert_eq!(goodbye(|description, _| description.port.subtype = 8), Err(9));
+    assert_eq!(goodbye(|description, _| description.port.octets.len = 0), Err(9));
+    let with_port = |octets: &[u8]| {
+        goodbye(|description, text| description.port.octets = put(text, octets))
+            .map(|lldpdu| lldpdu.len())
+    };
+    assert_eq!(with_port(&[0; 255]), Ok(19 + 254));
+    assert_eq!(with_port(&[0; 256]), Err(9));
+}
+
+#[test]
+fn each_kind_of_chassis() {
+    for chassis in right_chassis() {
+        let first = first_tlv(chassis.subtype, &chassis.octets);
+        let wrote = with_chassis(&chassis).expect("the chassis is right");
+        assert_eq!(wrote, [&first[..], &A[9..]].concat());
+        let bye = goodbye(|description, text| description.chassis = put_id(text, &chassis));
+        assert_eq!(bye, Ok([&first[..], &goodbye_of_a()[9..]].concat()));
+
+        // It reads back, and what was read back gives the same octets (W6).
+        let reading = read_frame(&[&HEADER[..], &wrote].concat()).expect("it is valid");
+        assert_eq!(reading.outline.chassis, chassis);
+        assert_eq!(reading.outline.port, id(7, &[0x31]));
+        assert!(reading.htip);
+        assert_eq!(with_chassis(&reading.outline.chassis), Ok(wrote));
+    }
+    // Characters are written as they are: AF is 41 46, not AF.
+    let expected = [&[0x02, 0x03, 0x07, 0x41, 0x46][..], &A[9..]].concat();
+    assert_eq!(with_chassis(&id(7, b"AF")), Ok(expected));
+}
+
+#[test]
+fn no_other_chassis() {
+    for chassis in wrong_chassis() {
+        assert_eq!(with_chassis(&chassis), Err(9), "{chassis:?}");
+        let bye = goodbye(|description, text| description.chassis = put_id(text, &chassis));
+        assert_eq!(bye, Err(9));
+    }
+    // Numbers that are right in eight bits only.
+    for (subtype, count) in [(4, 262), (4, 264), (7, 258), (7, 320)] {
+        assert_eq!(with_chassis(&id(subtype, &vec![0x30; count])), Err(9));
+    }
 }
 
 #[test]
@@ -209,18 +259,19 @@ fn port_subtypes_and_lengths() {
     for subtype in [1, 2, 3, 4, 5, 6, 7] {
         let mut expected = A;
         expected[11] = subtype;
-        let wrote = written(|description, _| description.port_subtype = subtype);
+        let wrote = written(|description, _| description.port.subtype = subtype);
         assert_eq!(wrote, Ok(expected.to_vec()));
     }
     for subtype in [0, 8, 128, 255] {
-        assert_eq!(written(|description, _| description.port_subtype = subtype), Err(9));
+        assert_eq!(written(|description, _| description.port.subtype = subtype), Err(9));
     }
+    let with_port =
+        |octets: &[u8]| written(|description, text| description.port.octets = put(text, octets));
     for length in [0, 256, 257, 512] {
-        let octets = vec![0x31; length];
-        assert_eq!(written(|description, text| description.port = put(text, &octets)), Err(9));
+        assert_eq!(with_port(&vec![0x31; length]), Err(9));
     }
     // 255 octets make L = 256, and so a header of 05 00.
-    let wrote = written(|description, text| description.port = put(text, &[0; 255]));
+    let wrote = with_port(&[0; 255]);
     let expected = [&A[..9], &[0x05, 0x00, 0x07], &[0; 255], &A[13..]].concat();
     assert_eq!(wrote, Ok(expected));
 }
@@ -359,20 +410,24 @@ fn an_empty_table_is_not_an_absent_one() {
 #[test]
 fn around_1500_octets() {
     // Frame A has 37 octets; 84 addresses in a list add 511, 83 in a table 509, and the longest
-    // category and port ID 254 each, since one octet of each is there: 1,565.
-    let of_length = |total: usize| {
-        written(|description, text| {
-            description.list = Some(put(text, &[9; 504]));
-            description.link = Some(put_link(text, &[6], &[3], 6 * 83));
-            description.category = put(text, &[0; 255]);
-            description.port = put(text, &vec![0; 255 - (1565 - total)]);
-        })
-        .map(|lldpdu| lldpdu.len())
-    };
-    assert_eq!(of_length(1499), Ok(1499));
-    assert_eq!(of_length(1500), Ok(1500));
-    assert_eq!(of_length(1501), Err(9));
-    assert_eq!(of_length(1565), Err(9));
+    // category and port ID 254 each, since one octet of each is there: 1,565. Six are the chassis.
+    for chassis in right_chassis() {
+        let longest = 1559 + chassis.octets.len();
+        let of_length = |total: usize| {
+            written(|description, text| {
+                description.chassis = put_id(text, &chassis);
+                description.list = Some(put(text, &[9; 504]));
+                description.link = Some(put_link(text, &[6], &[3], 6 * 83));
+                description.category = put(text, &[0; 255]);
+                description.port.octets = put(text, &vec![0; 255 - (longest - total)]);
+            })
+            .map(|lldpdu| lldpdu.len())
+        };
+        assert_eq!(of_length(1499), Ok(1499));
+        assert_eq!(of_length(1500), Ok(1500));
+        assert_eq!(of_length(1501), Err(9));
+        assert_eq!(of_length(longest), Err(9));
+    }
 }
 
 #[test]
@@ -380,10 +435,12 @@ fn parts_outside_the_text() {
     let far = 1 << 63;
     let most = u64::MAX;
     for (start, len) in [
-        (3, 1),
-        (2, 2),
-        (4, 0),
-        (0, 4),
+        (9, 1),
+        (8, 2),
+        (10, 0),
+        (0, 10),
+        (4, 6),
+        (2, 8),
         (far, 0),
         (far, 1),
         (far, far),
@@ -398,14 +455,19 @@ fn parts_outside_the_text() {
         (0, (1 << 32) + 1),
     ] {
         let outside = part(start, len);
-        assert_eq!(written(|description, _| description.port = outside), Err(9));
+        for subtype in [4, 7] {
+            let chassis = Id { subtype, octets: outside };
+            assert_eq!(written(|description, _| description.chassis = chassis.clone()), Err(9));
+            assert_eq!(goodbye(|description, _| description.chassis = chassis), Err(9));
+        }
+        assert_eq!(written(|description, _| description.port.octets = outside), Err(9));
         assert_eq!(written(|description, _| description.words = outside), Err(9));
         assert_eq!(written(|description, _| description.category = outside), Err(9));
         assert_eq!(written(|description, _| description.manufacturer = outside), Err(9));
         assert_eq!(written(|description, _| description.model_name = outside), Err(9));
         assert_eq!(written(|description, _| description.model_number = outside), Err(9));
         assert_eq!(written(|description, _| description.list = Some(outside)), Err(9));
-        let nothing = part(3, 0);
+        let nothing = part(9, 0);
         let one = part(0, 1);
         for (interface, number, addresses) in
             [(outside, one, nothing), (one, outside, nothing), (one, one, outside)]
@@ -421,26 +483,37 @@ fn parts_outside_the_text() {
 #[test]
 fn nothing_at_the_end_of_the_text_is_inside() {
     let wrote = written(|description, _| {
-        description.words = part(3, 0);
-        description.manufacturer = part(3, 0);
-        description.model_name = part(2, 0);
+        description.words = part(9, 0);
+        description.manufacturer = part(9, 0);
+        description.model_name = part(8, 0);
     });
     assert_eq!(wrote, Ok(A.to_vec()));
-    let wrote = goodbye(|description, _| description.words = part(3, 0));
+    let wrote = goodbye(|description, _| description.words = part(9, 0));
     assert_eq!(wrote, Ok(goodbye_of_a()));
-    // In a text of no octets nothing is inside, but a port ID has an octet.
+    // In a text of no octets nothing is inside, but chassis and port ID have octets.
     assert_eq!(goodbye(|_, text| text.clear()), Err(9));
 }
 
 #[test]
 fn parts_may_overlap() {
-    // The text is one octet, and every string is this octet.
-    let one = part(0, 1);
-    let description =
-        Description { port: one, category: one, model_number: one, ..description_of_a() };
-    let mut expected = A;
-    for place in [12, 25, 34] {
-        expected[place] = 0x5A;
-    }
-    assert_eq!(write(&description, b"Z", 37), Ok(expected.to_vec()));
+    // The text is one pair, and every string is this pair.
+    let pair = part(0, 2);
+    let whole = Id { subtype: 7, octets: pair };
+    let description = Description {
+        chassis: whole.clone(),
+        port: whole,
+        category: pair,
+        model_number: pair,
+        ..description_of_a()
+    };
+    let expected = [
+        &[0x02, 0x03, 0x07, 0x41, 0x46][..],
+        &[0x04, 0x03, 0x07, 0x41, 0x46],
+        &[0x06, 0x02, 0x00, 0x78],
+        &[0xFE, 0x08, 0xE0, 0x27, 0x1A, 0x01, 0x01, 0x02, 0x41, 0x46],
+        &[0xFE, 0x08, 0xE0, 0x27, 0x1A, 0x01, 0x04, 0x02, 0x41, 0x46],
+        &[0x00, 0x00],
+    ]
+    .concat();
+    assert_eq!(write(&description, b"AF", 36), Ok(expected));
 }

@@ -16,7 +16,7 @@ fieldTlvs d =
     ++ (ifLinked (d .link) ++ ifListed (d .list))))))
 
 unfoldable pub tlvsOf : Said → List Tlv
-tlvsOf d = chassisTlv (d .chassis) ∷ portTlv (d .subtype) (d .port) ∷ secondsTlv (d .seconds) ∷ (fieldTlvs d ++ (endTlv ∷ []))
+tlvsOf d = chassisTlv (d .chassis) ∷ portTlv (d .port) ∷ secondsTlv (d .seconds) ∷ (fieldTlvs d ++ (endTlv ∷ []))
 
 unfoldable pub encode : Said → List ℕ
 encode d = octetsOf (tlvsOf d)
@@ -26,7 +26,6 @@ abbrev pub countableOf : Said → Said
 countableOf d =
     record {
       chassis = d .chassis;
-      subtype = d .subtype;
       port = d .port;
       seconds = d .seconds;
       words = d .words;

@@ -10,14 +10,18 @@ use reading::Description;
 use reading::Link;
 use reading::link_parts;
 use text::text_of;
-use tlvs::put_chassis;
 use tlvs::put_device;
 use tlvs::put_head;
+use tlvs::put_id;
 use tlvs::put_listed;
-use tlvs::put_port;
 use tlvs::put_seconds;
 use tlvs::put_table;
 use tlvs::put_words;
+
+// The types of TLVs 1 and 2 (L3, L4).
+const CHASSIS: u8 = 1;
+
+const PORT: u8 = 2;
 
 fn put_link(out: &mut [u8], at: usize, text: &[u8], l: Link) -> usize
     ensures { λ r. ⌜ outputAt (now (out .exit)) r ≡ puts (octetsOf (ifLinked (countableLink (linkMeant (now (text .entry)) l)))) (outputAt (now (out .entry)) at) ⌝ }
@@ -63,8 +67,9 @@ pub fn put_lldpdu(out: &mut [u8], text: &[u8], d: Description) -> usize
     ensures { λ r. ⌜ outputAt (now (out .exit)) r ≡ puts (encode (countableOf (saidBy (now (text .entry)) d))) (outputAt (now (out .entry)) 0) ⌝ }
 {
     let chassis = d.chassis;
-    let a = put_chassis(out, chassis);
-    let b = put_port(out, a, d.subtype, text, d.port);
+    let port = d.port;
+    let a = put_id(out, 0, CHASSIS, text, chassis);
+    let b = put_id(out, a, PORT, text, port);
     let c = put_seconds(out, b, d.seconds);
     let e = put_fields(out, c, text, d);
     put_head(out, e, 0, 0)

@@ -12,10 +12,10 @@ use crate::print::say_reading;
 use crate::print::say_two;
 use octets::octet;
 use octets::pair;
-use octets::six;
 use octets::value_of;
 use reader::AddressList;
 use reader::Description;
+use reader::IdPart;
 use reader::Link;
 use reader::Part;
 use reader::read_lldpdu;
@@ -24,7 +24,7 @@ use writer::Written;
 use writer::write;
 
 // The octets of a case before its text.
-const HEAD: u32 = 175;
+const HEAD: u32 = 186;
 
 // The most octets of an output.
 const ROOM: usize = 1600;
@@ -56,35 +56,44 @@ fn part_at(octets: &[u8], at: usize) -> Part
     }
 }
 
+// An ID whose subtype and whose part stand at two places.
+fn id_at(octets: &[u8], subtype: usize, part: usize) -> IdPart
+    requires { ⌜ part < 900 ⌝ }
+{
+    IdPart {
+        subtype: octet(octets, subtype),
+        octets: part_at(octets, part),
+    }
+}
+
 fn link_at(octets: &[u8]) -> Link {
-    if octet(octets, 105) == 0 {
+    if octet(octets, 116) == 0 {
         return Link::Absent;
     }
     Link::Table {
-        interface: part_at(octets, 106),
-        port: part_at(octets, 122),
-        addresses: part_at(octets, 138),
+        interface: part_at(octets, 117),
+        port: part_at(octets, 133),
+        addresses: part_at(octets, 149),
     }
 }
 
 fn list_at(octets: &[u8]) -> AddressList {
-    if octet(octets, 154) == 0 {
+    if octet(octets, 165) == 0 {
         return AddressList::Absent;
     }
-    AddressList::Listed(part_at(octets, 155))
+    AddressList::Listed(part_at(octets, 166))
 }
 
 fn description_at(octets: &[u8]) -> Description {
     Description {
-        chassis: six(octets, 0),
-        subtype: octet(octets, 6),
-        port: part_at(octets, 9),
-        seconds: pair(octet(octets, 7), octet(octets, 8)),
-        words: part_at(octets, 25),
-        category: part_at(octets, 41),
-        manufacturer: part_at(octets, 57),
-        model: part_at(octets, 73),
-        number: part_at(octets, 89),
+        chassis: id_at(octets, 0, 4),
+        port: id_at(octets, 1, 20),
+        seconds: pair(octet(octets, 2), octet(octets, 3)),
+        words: part_at(octets, 36),
+        category: part_at(octets, 52),
+        manufacturer: part_at(octets, 68),
+        model: part_at(octets, 84),
+        number: part_at(octets, 100),
         link: link_at(octets),
         list: list_at(octets),
     }
@@ -162,15 +171,15 @@ fn answer(case: usize, d: Description, text: &[u8], room: usize) {
 
 // The case at the front of the octets; how many of them it has.
 pub(crate) fn run_case(case: usize, octets: &[u8]) -> u32 {
-    let room = pair(octet(octets, 171), octet(octets, 172)) as usize;
-    let length = pair(octet(octets, 173), octet(octets, 174));
+    let room = pair(octet(octets, 182), octet(octets, 183)) as usize;
+    let length = pair(octet(octets, 184), octet(octets, 185));
     answer(
         case,
         description_at(octets),
         text_of(
             octets,
             Part {
-                start: 175,
+                start: 186,
                 len: length as usize,
             },
         ),

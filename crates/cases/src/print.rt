@@ -5,6 +5,7 @@ use libc::STDOUT_FILENO;
 use reader::AddressList;
 use reader::Description;
 use reader::Extent;
+use reader::IdPart;
 use reader::Link;
 use reader::Naming;
 use reader::Outline;
@@ -33,25 +34,21 @@ const READING_NO: usize = 9;
 
 const READING_YES: usize = 10;
 
-const IDENTITY: usize = 11;
+const STRINGS: usize = 11;
 
-const STRINGS: usize = 12;
+const LINK: usize = 12;
 
-const LINK: usize = 13;
+const NO_LINK: usize = 13;
 
-const NO_LINK: usize = 14;
+const LIST: usize = 14;
 
-const LIST: usize = 15;
+const NO_LIST: usize = 15;
 
-const NO_LIST: usize = 16;
+const NAMING_REFUSED: usize = 16;
 
-const NAMING_REFUSED: usize = 17;
+const NAMING_NONE: usize = 17;
 
-const NAMING_NONE: usize = 18;
-
-const NAMING: usize = 19;
-
-const END: usize = 20;
+const NAMING: usize = 18;
 
 // More than the longest words, which spell out a buffer of 1,600 octets.
 const LINE: usize = 4096;
@@ -62,7 +59,7 @@ pub(crate) fn say(form: usize, values: [usize; 10], text: &[u8]) {
     let end = put_form(
         &mut line,
         0,
-        b"# refused #\n|# wrote #\n|# output % rest #\n|# again refused #\n|# again # %\n|# outline refused #\n|# outline valid # %|# reading refused #\n|# reading valid # no %|# reading valid # yes %| # % #| % % % % %| %/%/%| absent| %\n| absent\n|# naming refused #\n|# naming none\n|# naming # # # #\n|\n",
+        b"# refused #\n|# wrote #\n|# output % rest #\n|# again refused #\n|# again # %\n|# outline refused #\n|# outline valid # # % # % #\n|# reading refused #\n|# reading valid # no # % # % #|# reading valid # yes # % # % #| % % % % %| %/%/%| absent| %\n| absent\n|# naming refused #\n|# naming none\n|# naming # # # #\n",
         form,
         &values,
         text,
@@ -81,24 +78,22 @@ fn say_identity(
     case: usize,
     length: usize,
     lldpdu: &[u8],
-    chassis: [u8; 6],
-    subtype: u8,
-    port: Part,
+    chassis: IdPart,
+    port: IdPart,
     seconds: u16,
 ) {
-    say_two(title, case, length, &chassis);
     say(
-        IDENTITY,
+        title,
         [
-            subtype as usize,
-            port.start,
-            port.len,
+            case,
+            length,
+            chassis.subtype as usize,
+            chassis.octets.start,
+            chassis.octets.len,
+            port.subtype as usize,
+            port.octets.start,
+            port.octets.len,
             seconds as usize,
-            0,
-            0,
-            0,
-            0,
-            0,
             0,
         ],
         lldpdu,
@@ -110,18 +105,15 @@ pub(crate) fn say_outline(case: usize, lldpdu: &[u8], o: Outline) {
     match extent {
         Extent::Refused(n) => say_two(OUTLINE_REFUSED, case, n as usize, lldpdu),
         Extent::Octets(length) => {
-            let chassis = o.chassis;
             say_identity(
                 OUTLINE_VALID,
                 case,
                 length,
                 lldpdu,
-                chassis,
-                o.subtype,
+                o.chassis,
                 o.port,
                 o.seconds,
             );
-            say_two(END, 0, 0, lldpdu);
         }
     }
 }
@@ -188,18 +180,8 @@ pub(crate) fn say_reading(case: usize, lldpdu: &[u8], r: Reading) {
         Extent::Refused(n) => say_two(READING_REFUSED, case, n as usize, lldpdu),
         Extent::Octets(length) => {
             let d = r.description;
-            let chassis = d.chassis;
             let title = if r.htip { READING_YES } else { READING_NO };
-            say_identity(
-                title,
-                case,
-                length,
-                lldpdu,
-                chassis,
-                d.subtype,
-                d.port,
-                d.seconds,
-            );
+            say_identity(title, case, length, lldpdu, d.chassis, d.port, d.seconds);
             say_fields(lldpdu, d);
         }
     }

@@ -11,6 +11,7 @@ use lib.Dec.{leb, eqb}
 use Rattle.tally.specs.Tests.{pick, all}
 use Rattle.tally.proofs.TestsLaws.{both-true, held}
 use Rattle.strings.specs.Text.{textOk}
+use Rattle.ids.specs.Id.{chassisOk, portOk}
 use Rattle.fields.specs.Field.{descriptionOf, fieldOf}
 use Rattle.fields.specs.declared.Field.the-variants.{Skipped, Malformed, Says}
 use Rattle.text.specs.Part.{textOf}
@@ -23,13 +24,12 @@ use Rattle.reading.specs.declared.Link.the-variants as link-is
 use Rattle.reading.specs.declared.LinkParts.{LinkParts}
 use Rattle.reading.specs.declared.AddressList.{AddressList}
 use Rattle.reading.specs.declared.AddressList.the-variants as list-is
-use Rattle.description.specs.Rules.{portRules, wordsSound, stringRules, tableRules, tableSound, linkSound, listedSound, listSound, noLink, noList, goodbyeRules, liveRules, rules, soundOf}
+use Rattle.description.specs.Rules.{wordsSound, stringRules, tableRules, tableSound, linkSound, listedSound, listSound, noLink, noList, goodbyeRules, liveRules, rules, soundOf}
 
 -- what is said by a description that keeps the rules
 pub record Kept (d : Said) : Type 0 where
-  pub six : length (d .chassis) ≡ 6
-  pub subtype : (leb 1 (d .subtype) ≡ true) × (leb (d .subtype) 7 ≡ true)
-  pub port : (1 ≤ length (d .port)) × (length (d .port) ≤ 255)
+  pub chassis : chassisOk (d .chassis) ≡ true
+  pub port : portOk (d .port) ≡ true
   pub words : length (d .words) ≤ 255
   pub text : textOk (d .words) ≡ true
   pub category : length (d .category) ≤ 255
@@ -44,14 +44,11 @@ pub kept : (d : Said) → soundOf d ≡ true → Kept d
 unfolding soundOf
 kept d e =
     let h = held (rules d) e in
-    let n = length (d .port) in
-    let p = held (portRules (d .subtype) n) (h .1 .0) in
     let w = both-true (leb (length (d .words)) 255) (textOk (d .words)) (h .1 .1 .0) in
     let s = held (stringRules d) (h .1 .1 .1 .0) in
     record {
-      six = eqb-true (length (d .chassis)) 6 (h .0);
-      subtype = (p .0, p .1 .0);
-      port = (leb-true 1 n (p .1 .1 .0), leb-true n 255 (p .1 .1 .1 .0));
+      chassis = h .0;
+      port = h .1 .0;
       words = leb-true (length (d .words)) 255 (w .0);
       text = w .1;
       category = leb-true (length (d .category)) 255 (s .0);

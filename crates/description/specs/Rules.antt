@@ -8,17 +8,9 @@ use lib.ListN.{length}
 use lib.Dec.{leb, eqb}
 use Rattle.tally.specs.Tests.{pick, both, all}
 use Rattle.strings.specs.Text.{textOk}
+use Rattle.ids.specs.Id.{chassisOk, portOk}
 use Rattle.found.specs.Contents.{LinkInfo}
 use Rattle.reading.specs.Meaning.{Said}
-
--- What is said
-
--- the port ID (L4), by its subtype and the number of its octets
-abbrev pub portRules : ℕ → ℕ → List Bool
-portRules subtype n = leb 1 subtype ∷ leb subtype 7 ∷ leb 1 n ∷ leb n 255 ∷ []
-
-abbrev pub portSound : ℕ → ℕ → Bool
-portSound subtype n = all (portRules subtype n)
 
 -- T10
 abbrev pub wordsSound : List ℕ → Bool
@@ -75,11 +67,11 @@ liveRules d = leb 1 (length (d .category)) ∷ leb 1 (length (d .number)) ∷ []
 abbrev pub timelyOf : Said → Bool
 timelyOf d = pick (eqb (d .seconds) 0) (all (goodbyeRules d)) (all (liveRules d))
 
--- a chassis is an address of six octets (L3)
+-- chassis and port ID are as the reader asks for them (L3, L4)
 abbrev pub rules : Said → List Bool
 rules d =
-    eqb (length (d .chassis)) 6
-    ∷ portSound (d .subtype) (length (d .port))
+    chassisOk (d .chassis)
+    ∷ portOk (d .port)
     ∷ wordsSound (d .words)
     ∷ all (stringRules d)
     ∷ linkSound (d .link)

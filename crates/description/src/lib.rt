@@ -3,13 +3,14 @@
 ghost use mathlib.Core.Path.{_≡_};
 ghost use mathlib.Core.List.{[]};
 ghost use lib.ListN.{length};
-ghost use lib.Dec.{eqb};
 ghost use Rattle.tally.specs.Tests.{all};
 ghost use Rattle.text.specs.Part.{textOf};
 ghost use Rattle.reading.specs.Meaning.{linkMeant, listMeant, saidBy};
-ghost use Rattle.description.specs.Rules.{portSound, wordsSound, stringRules, tableSound, linkSound, listedSound, listSound, noLink, noList, goodbyeRules, liveRules, timelyOf, soundOf};
+ghost use Rattle.description.specs.Rules.{wordsSound, stringRules, tableSound, linkSound, listedSound, listSound, noLink, noList, goodbyeRules, liveRules, timelyOf, soundOf};
 use fields::Field;
 use fields::field_of;
+use ids::chassis_fits;
+use ids::port_fits;
 use reading::AddressList;
 use reading::Description;
 use reading::Link;
@@ -21,29 +22,6 @@ fn count_of(text: &[u8], p: Part) -> usize
     ensures { λ r. ⌜ r ≡ length (textOf (now (text .entry)) p) ⌝ }
 {
     text_of(text, p).len()
-}
-
-// A chassis is an address of six octets (L3).
-fn chassis_sound(chassis: [u8; 6]) -> bool
-    ensures { λ r. ⌜ r ≡ eqb (length chassis) 6 ⌝ }
-{
-    chassis.len() == 6
-}
-
-// The port ID (L4).
-fn port_sound(subtype: u8, n: usize) -> bool
-    ensures { λ r. ⌜ r ≡ portSound subtype n ⌝ }
-{
-    if subtype < 1 {
-        return false;
-    }
-    if subtype > 7 {
-        return false;
-    }
-    if n < 1 {
-        return false;
-    }
-    n <= 255
 }
 
 // The port description, as the reader judges it (T10).
@@ -196,12 +174,13 @@ pub fn is_sound(text: &[u8], d: Description) -> bool
     ensures { λ r. ⌜ r ≡ soundOf (saidBy (now (text .entry)) d) ⌝ }
 {
     let chassis = d.chassis;
+    let port = d.port;
     let link = d.link;
     let list = d.list;
-    if !chassis_sound(chassis) {
+    if !chassis_fits(chassis.subtype, text_of(text, chassis.octets)) {
         return false;
     }
-    if !port_sound(d.subtype, count_of(text, d.port)) {
+    if !port_fits(port.subtype, text_of(text, port.octets)) {
         return false;
     }
     if !words_sound(text_of(text, d.words)) {

@@ -13,7 +13,6 @@ use numbers::PLACES;
 use numbers::Table;
 use place::is_of;
 use place::lldpdu_at;
-use text::text_of;
 
 // Whether place j has a record with the identity of place i.
 fn is_twin(t: Table, buffer: &[u8], i: usize, j: usize) -> bool
@@ -22,16 +21,7 @@ fn is_twin(t: Table, buffer: &[u8], i: usize, j: usize) -> bool
 {
     let l = lldpdu_at(t, buffer, i);
     let o = outline_lldpdu(l);
-    let chassis = o.chassis;
-    is_of(
-        t,
-        buffer,
-        j,
-        t.port[i],
-        chassis,
-        o.subtype,
-        text_of(l, o.port),
-    )
+    is_of(t, buffer, j, t.port[i], l, o.chassis, o.port)
 }
 
 // No place below i has the identity of place i (N5 d).

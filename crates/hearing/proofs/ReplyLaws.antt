@@ -14,7 +14,7 @@ use Rattle.tally.specs.Due.{firstDue}
 use Rattle.tally.proofs.TestsLaws.{not-below, below-or-at}
 use Rattle.lldpdu.specs.Extent.{extentOf}
 use Rattle.lldpdu.specs.Outline.{refusedOutline, outlineAt, outlineOf}
-use Rattle.text.specs.Part.{textOf}
+use Rattle.ids.specs.Id.{idMeant}
 use Rattle.walk.specs.declared.Extent.{Extent}
 use Rattle.walk.specs.declared.Extent.the-variants as extent-is
 use Rattle.lldpdu.specs.declared.outline.Outline.{Outline}
@@ -77,10 +77,10 @@ module _ (p n : ℕ) (l : List ℕ) (s : State) where
 
 -- what the code has of an LLDPDU l, by its outline
 module _ (p : ℕ) (l : List ℕ) (s : State) {o : Outline} (e : o ≡ outlineOf l) where
-  -- i is its port ID, and k the place that the code found for them
-  module _ {i : List ℕ} (t : i ≡ textOf l (o .port)) {k : ℕ} (q : k ≡ find s (ident p (o .chassis) (o .subtype) i)) where
+  -- k is the place that the code found for its identity
+  module _ {k : ℕ} (q : k ≡ find s (ident p (idMeant l (o .chassis)) (idMeant l (o .port)))) where
     found : k ≡ find s (whose p (said l))
-    found = q ∙ ap (find s) (ap (ident p (o .chassis) (o .subtype)) t ∙ outline-ident p l e)
+    found = q ∙ ap (find s) (outline-ident p l e)
 
     pub saying-known : k < places → heardAt k p (o .seconds) l s ≡ heardSaying p (said l) s
     unfolding heardSaying said

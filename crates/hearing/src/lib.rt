@@ -4,6 +4,7 @@ ghost use mathlib.Core.Path.{_≡_};
 ghost use Prim.Native.Nat.{_≤_, _<_};
 ghost use mathlib.Core.Bool.{true};
 ghost use lib.ListN.{length};
+ghost use Rattle.ids.specs.Id.{idMeant};
 ghost use Rattle.lldpdu.specs.Outline.{outlineOf};
 ghost use Rattle.rules.specs.Events.{whose};
 ghost use Rattle.numbers.specs.Sizes.{ports, places};
@@ -13,6 +14,7 @@ ghost use Rattle.hearing.specs.Frame.{heardOf, reception, told, heardAt,
 use fitness::NO_PORT;
 use fitness::UNFIT;
 use fitness::is_fit;
+use ids::IdPart;
 use lldpdu::Extent;
 use lldpdu::Outline;
 use numbers::PLACES;
@@ -40,12 +42,12 @@ pub struct Reception {
 }
 
 // The place of a record with this identity, or PLACES where it is new (N2).
-fn place_of(t: Table, buffer: &[u8], p: u8, chassis: [u8; 6], subtype: u8, id: &[u8]) -> usize
+fn place_of(t: Table, buffer: &[u8], p: u8, text: &[u8], chassis: IdPart, port: IdPart) -> usize
     requires { ⌜ length (now buffer) ≡ octets ⌝ }
-    ensures { λ r. ⌜ r ≡ find (state t (now (buffer .entry))) (ident p chassis subtype (now (id .entry))) ⌝ }
+    ensures { λ r. ⌜ r ≡ find (state t (now (buffer .entry))) (ident p (idMeant (now (text .entry)) chassis) (idMeant (now (text .entry)) port)) ⌝ }
 {
     for i in 0..PLACES {
-        if is_of(t, buffer, i, p, chassis, subtype, id) {
+        if is_of(t, buffer, i, p, text, chassis, port) {
             return i;
         }
     }
@@ -98,8 +100,7 @@ fn hear(t: Table, buffer: &mut [u8], p: u8, o: Outline, l: &[u8]) -> Reception
     requires { ⌜ (fit (state t (now buffer)) ≡ true) × ((p < ports) × ((length (now l) ≤ size) × (o ≡ outlineOf (now l)))) ⌝ }
     ensures { λ r. ⌜ told r (now (buffer .exit)) ≡ heardSaying p (said (now (l .entry))) (state t (now (buffer .entry))) ⌝ }
 {
-    let chassis = o.chassis;
-    let k = place_of(t, buffer, p, chassis, o.subtype, text_of(l, o.port));
+    let k = place_of(t, buffer, p, l, o.chassis, o.port);
     if k < PLACES {
         return hear_known(t, buffer, k, p, o.seconds, l);
     }

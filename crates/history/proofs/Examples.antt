@@ -8,6 +8,7 @@ use mathlib.Core.Option.{none, some}
 use lib.ListN.{getD}
 use Rattle.tally.specs.Counts.{sum}
 use Rattle.octets.specs.Address.{sameOctets}
+use Rattle.ids.specs.Id.{id, sameId}
 use Rattle.rules.specs.Identity.{same}
 use Rattle.rules.specs.Events.{Announcement, Heard, says, frame, passed, History, whose}
 use Rattle.rules.specs.Shares.{beyond, share, room}
@@ -23,7 +24,7 @@ eight = 8
 
 -- one switch whose agents differ in port ID: agent k announces itself with some seconds
 abbrev agent : ℕ → ℕ → Announcement
-agent k seconds = record { chassis = 2 ∷ 0 ∷ 0 ∷ 0 ∷ 0 ∷ 1 ∷ []; subtype = 7; portId = k ∷ []; seconds = seconds; octets = k ∷ seconds ∷ [] }
+agent k seconds = record { chassis = id 4 (2 ∷ 0 ∷ 0 ∷ 0 ∷ 0 ∷ 1 ∷ []); portId = id 7 (k ∷ []); seconds = seconds; octets = k ∷ seconds ∷ [] }
 
 abbrev hello : ℕ → Heard
 hello k = says (agent k 120)
@@ -58,7 +59,7 @@ replies-agree n h ((p, x) ∷ l) = ap₂ (λ (r : Reply) (rs : List Reply). r �
 
 -- what the eight ports hold
 pub bench-held : map (held eight bench) (0 ∷ 1 ∷ 2 ∷ 3 ∷ 4 ∷ 5 ∷ 6 ∷ 7 ∷ []) ≡ (6 ∷ 6 ∷ 6 ∷ 6 ∷ 2 ∷ 0 ∷ 0 ∷ 0 ∷ [])
-unfolding held countNeighbours countBy latest hearing answerBy room share beyond sum same sameOctets
+unfolding held countNeighbours countBy latest hearing answerBy room share beyond sum same sameId sameOctets
 bench-held = refl
 
 -- a seventh on port 0, a third on port 4, two new ones and a third on port 5, a goodbye on port 0, then the third on port 4
@@ -69,7 +70,7 @@ abbrev run-expected : List Reply
 run-expected = Refused 7 ∷ Refused 8 ∷ Recorded ∷ Recorded ∷ Refused 8 ∷ Gone ∷ Recorded ∷ []
 
 pub run-answers : answersTo eight bench run-frames ≡ run-expected
-unfolding answer countNeighbours countBy latest hearing answerBy room share beyond sum same sameOctets
+unfolding answer countNeighbours countBy latest hearing answerBy room share beyond sum same sameId sameOctets
 run-answers = refl
 
 pub run-replies : repliesTo eight (run eight bench) run-frames ≡ run-expected
@@ -81,17 +82,17 @@ abbrev aged : History
 aged = passed 119 ∷ first 0 1
 
 pub one-left : latest eight aged (whose 0 (agent 1 120)) ≡ some (record { said = agent 1 120; since = 119 })
-unfolding latest hearing answerBy countBy room share beyond sum same sameOctets
+unfolding latest hearing answerBy countBy room share beyond sum same sameId sameOctets
 one-left = refl
 
 pub one-left-kept : getD (run eight aged) 0 none ≡ some (record { who = whose 0 (agent 1 120); left = 1; octets = agent 1 120 .octets })
-unfolding afterFrame reply tick room share beyond sum same sameOctets
+unfolding afterFrame reply tick room share beyond sum same sameId sameOctets
 one-left-kept = refl
 
 pub then-gone : present eight (passed 1 ∷ aged) (whose 0 (agent 1 120)) ≡ false
-unfolding present latest hearing answerBy countBy room share beyond sum same sameOctets
+unfolding present latest hearing answerBy countBy room share beyond sum same sameId sameOctets
 then-gone = refl
 
 pub then-free : run eight (passed 1 ∷ aged) ≡ run eight []
-unfolding afterFrame reply tick room share beyond sum same sameOctets
+unfolding afterFrame reply tick room share beyond sum same sameId sameOctets
 then-free = refl

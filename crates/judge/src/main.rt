@@ -18,24 +18,23 @@ const LLDPDU: Part = Part {
 // More than the longest answer, whose port ID has 255 octets (L4).
 const ROOM: usize = 1024;
 
-fn put_chassis(line: &mut [u8], chassis: [u8; 6]) -> usize {
-    put_form(line, 0, b"chassis ~\n", 1, &[0, 6], &chassis)
-}
-
 fn put_reading(line: &mut [u8], lldpdu: &[u8], r: Reading) -> usize {
     let d = r.description;
     let chassis = d.chassis;
-    let end = put_chassis(line, chassis);
+    let port = d.port;
     let verdict = if r.htip { 1 } else { 2 };
     put_form(
         line,
-        end,
-        b"port # ~\nseconds #\nhtip yes\n|port # ~\nseconds #\nhtip no\n",
+        0,
+        b"chassis @\nport # ~\nseconds #\nhtip yes\n|chassis @\nport # ~\nseconds #\nhtip no\n",
         verdict,
         &[
-            d.subtype as usize,
-            d.port.start,
-            d.port.len,
+            chassis.subtype as usize,
+            chassis.octets.start,
+            chassis.octets.len,
+            port.subtype as usize,
+            port.octets.start,
+            port.octets.len,
             d.seconds as usize,
         ],
         lldpdu,

@@ -8,6 +8,8 @@ use Rattle.line.proofs.put_hexes.Kinds as hexes-kinds
 use Rattle.line.proofs.put_hexes.Reads as hexes
 use Rattle.line.proofs.put_joined.Kinds as joined-kinds
 use Rattle.line.proofs.put_joined.Reads as joined
+use Rattle.line.proofs.put_chassis.Kinds as chassis-kinds
+use Rattle.line.proofs.put_chassis.Reads as chassis
 
 pub put-number-sole : SolePut 1 number-kinds.ps number-kinds.r number.Post (λ κs x. now (x .0))
 put-number-sole κs a r q x y = same-put
@@ -17,3 +19,6 @@ put-hexes-sole κs a r q x y = same-put
 
 pub put-joined-sole : SolePut 2 joined-kinds.ps joined-kinds.r joined.Post (λ κs x. now (x .0))
 put-joined-sole κs a r q x y = same-put
+
+pub put-chassis-sole : SolePut 2 chassis-kinds.ps chassis-kinds.r chassis.Post (λ κs x. now (x .0))
+put-chassis-sole κs a r q x y = same-put

@@ -1,8 +1,8 @@
--- Octets as they are printed (J2): two capital hex digits each, in ASCII.
+-- Octets as they are printed (J2): two capital hex digits each, in ASCII; those of a local chassis as they are.
 -- An address and a port ID are joined by `-`; the stored answers have octets without it.
 use Prim.Native.Nat.{ℕ, _+_, _/_, _%_}
 use mathlib.Core.List.{List, [], _∷_, _++_}
-use lib.Dec.{ltb}
+use lib.Dec.{eqb, ltb}
 use Rattle.tally.specs.Tests.{pick}
 
 -- 0 to 9, then A to F, of a number below 16
@@ -29,3 +29,11 @@ dashed (b ∷ x) = 45 ∷ (hexOf b ++ dashed x)
 abbrev pub joined : List ℕ → List ℕ
 joined [] = []
 joined (b ∷ x) = hexOf b ++ dashed x
+
+-- `local`, and a space
+abbrev pub localWord : List ℕ
+localWord = 0x6C ∷ 0x6F ∷ 0x63 ∷ 0x61 ∷ 0x6C ∷ 0x20 ∷ []
+
+-- a chassis: with subtype 7 its octets are characters, with any other an address
+unfoldable pub chassisShown : ℕ → List ℕ → List ℕ
+chassisShown subtype octets = pick (eqb subtype 7) (localWord ++ octets) (joined octets)

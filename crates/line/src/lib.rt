@@ -1,11 +1,12 @@
-// What is printed (J2): numbers in decimal and octets in hex, put into a lent line.
+// What is printed (J2): numbers in decimal, octets in hex and a chassis, put into a lent line.
 // Every function takes any line and any place, answers the place behind what it put, and leaves out what does not fit.
 ghost use mathlib.Core.Path.{_≡_};
 ghost use mathlib.Core.List.{_∷_};
 ghost use Prim.Native.Nat.{_<_};
 ghost use Rattle.output.specs.Output.{outputAt, puts};
-ghost use Rattle.line.specs.Hex.{digitOf, hexOf, hexesOrStop, joined};
+ghost use Rattle.line.specs.Hex.{digitOf, hexOf, hexesOrStop, joined, chassisShown};
 ghost use Rattle.line.specs.Decimal.{decimal};
+use output::put_all;
 use output::put_octet;
 
 // A number in decimal: the digits of the tenth part, then the last one.
@@ -70,4 +71,15 @@ pub fn put_joined(line: &mut [u8], at: usize, octets: &[u8]) -> usize
         end = put_dashed(line, end, octets[i]);
     }
     end
+}
+
+// A chassis (J2): with subtype 7 its octets are characters, behind the word `local`; with any other they are an address.
+pub fn put_chassis(line: &mut [u8], at: usize, subtype: usize, octets: &[u8]) -> usize
+    ensures { λ r. ⌜ outputAt (now (line .exit)) r ≡ puts (chassisShown subtype (now (octets .entry))) (outputAt (now (line .entry)) at) ⌝ }
+{
+    if subtype == 7 {
+        let end = put_all(line, at, b"local ");
+        return put_all(line, end, octets);
+    }
+    put_joined(line, at, octets)
 }

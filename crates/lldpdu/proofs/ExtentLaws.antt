@@ -1,42 +1,41 @@
 -- Laws of the extent: one of the first three TLVs by what its header is, and a valid LLDPDU as a record of facts.
 -- `good` and `reads` pass between the answer and the facts, so that later laws build or take apart a `Good` and nothing else.
-use Prim.Native.Nat.{ℕ, _+_, _≤_}
+use Prim.Native.Nat.{ℕ, _+_, _-_, _≤_, _<_}
 use mathlib.Core.Path.{_≡_, refl, sym, ap, ap₂, _∙_}
-use mathlib.Core.List.{List, [], _∷_}
+use mathlib.Core.List.{List}
 use mathlib.Core.Bool.{Bool, true, false}
 use native.Mathlib.Omega.{arith}
-use borrow.Author.Tests.{leb-true, eqb-true}
-use lib.ListN.{drop, getD}
-use lib.Seq.{getD-drop}
-use lib.Dec.{leb, eqb}
+use native.Mathlib.Nat.{add-zero}
+use borrow.Author.Tests.{eqb-true}
+use lib.ListN.{length, take, drop, getD, length-drop}
+use lib.Seq.{getD-drop, length-take-le}
+use lib.Dec.{eqb}
 use Rattle.tally.specs.Tests.{pick}
-use Rattle.tally.proofs.TestsLaws.{both-true, held}
+use Rattle.tally.proofs.TestsLaws.{both-true}
 use Rattle.octets.specs.Header.{lengthIn}
-use Rattle.walk.specs.Walk.{headOf, walk}
-use Rattle.lldpdu.specs.Extent.{chassisOk, portOk, secondsOk, need, portLength, restOf, behindPort, behindChassis, extentOf}
-use Rattle.lldpdu.specs.Outline.{outlineAt, outlineOf}
-use Rattle.walk.proofs.WalkLaws.{whole}
+use Rattle.octets.specs.Numbers.{pairOf}
+use Rattle.walk.specs.Walk.{headOf}
+use Rattle.lldpdu.specs.Extent.{lengthAt, portPlace, secondsPlace, idAt, idIn, isChassis, isPort, secondsOk, need, restOf, behindPort, behindChassis, extentOf}
+use Rattle.lldpdu.specs.Outline.{idBetween, Behind, refusedOutline, outlineAt, outlineOf}
+use Rattle.text.specs.Part.{part}
+use Rattle.ids.specs.Id.{id, chassisOk, portOk}
+use Rattle.ids.specs.declared.IdPart.{IdPart}
+use Rattle.ids.proofs.IdLaws.{chassis-short, port-short}
+use Rattle.walk.proofs.WalkLaws.{whole, whole-fits}
 use Rattle.walk.specs.declared.Head.{Head}
 use Rattle.walk.specs.declared.Head.the-variants.{Short, Whole}
 use Rattle.walk.specs.declared.Extent.{Extent}
 use Rattle.walk.specs.declared.Extent.the-variants.{Refused, Octets}
 
--- One of the first three
+-- One of the first three, in the outline of s: by what the code has of its header h, and of its test
 
--- by what the code has of the header h, and of its test
-module _ {h r : Head} (p : r ≡ h) where
-  pub need-short : (ok : ℕ → ℕ → Bool) (next : Extent) → r ≡ Short → Refused 5 ≡ need h ok next
-  need-short ok next e = rw (sym p ∙ e)
+module _ (s : List ℕ) {h r : Head} (p : r ≡ h) (ok : ℕ → ℕ → Bool) (next : Extent) where
+  pub need-short : r ≡ Short → refusedOutline 5 ≡ outlineAt (need h ok next) s
+  need-short e = rw (sym p ∙ e)
 
-  module _ {kind len : ℕ} (e : r ≡ Whole kind len) where
-    pub need-whole : (ok : ℕ → ℕ → Bool) (next : Extent) {t b : Bool} → t ≡ ok kind len → t ≡ b
-        → pick b next (Refused 4) ≡ need h ok next
-    need-whole ok next q i = rw (sym p ∙ e, sym q ∙ i)
-
-    -- the same where the test asks for a subtype u
-    pub need-subtype : (ok : ℕ → ℕ → ℕ → Bool) (next : Extent) {u v : ℕ} {t b : Bool} → v ≡ u → t ≡ ok v kind len → t ≡ b
-        → pick b next (Refused 4) ≡ need h (ok u) next
-    need-subtype ok next {u} g q i = need-whole (ok u) next (q ∙ ap (λ (x : ℕ). ok x kind len) g) i
+  pub need-whole : {kind len : ℕ} → r ≡ Whole kind len → {t b : Bool} → t ≡ ok kind len → t ≡ b
+      → outlineAt (pick b next (Refused 4)) s ≡ outlineAt (need h ok next) s
+  need-whole e q i = rw (sym p ∙ e, sym q ∙ i)
 
 pub not-both : {A : Type 0} {n e : ℕ} → Refused n ≡ Octets e → A
 not-both q = let z : _≡_ {A = ℕ} 0 1 = cc in absurd (omega arith)
@@ -57,56 +56,121 @@ needed (Whole kind len) ok next e q = go (ok kind len) refl q
     go true p w = record { kind = kind; len = len; head = refl; passes = p; onward = w }
     go false p w = not-both w
 
-pub port-length : (s : List ℕ) {kind len : ℕ} → headOf (drop 9 s) ≡ Whole kind len → len ≡ portLength s
-port-length s {kind} {len} e =
-    sym (whole (drop 9 s) kind len e .len-is) ∙ ap₂ lengthIn (getD-drop 9 s 0 0) (getD-drop 9 s 1 0)
+-- A whole TLV at a place
 
-pub port-short : (u kind len : ℕ) → portOk u kind len ≡ true → (2 ≤ len) × (len ≤ 256)
-port-short u kind len e =
-    let h = held (eqb kind 2 ∷ leb 2 len ∷ leb len 256 ∷ leb 1 u ∷ leb u 7 ∷ []) e in
-    (leb-true 2 len (h .1 .0), leb-true len 256 (h .1 .1 .0))
+module _ (s : List ℕ) (at : ℕ) {kind len : ℕ} (e : headOf (drop at s) ≡ Whole kind len) where
+  pub length-at : len ≡ lengthAt s at
+  length-at =
+      sym (whole (drop at s) kind len e .len-is)
+      ∙ ap₂ lengthIn (getD-drop at s 0 0 ∙ ap (λ (k : ℕ). getD s k 0) (add-zero at)) (getD-drop at s 1 0)
 
--- with the length of TLV 2 in hand
-pub behind-port : (s : List ℕ) {p : ℕ} → p ≡ portLength s
-    → behindPort s ≡ need (headOf (drop (11 + p) s)) secondsOk (walk (drop (15 + p) s) 0 (15 + p) .extent)
-unfolding behindPort
-behind-port s e = rw e
+  -- all octets of its ID are there
+  pub id-octets : length (idIn s at .octets) ≡ lengthAt s at - 1
+  id-octets =
+      length-take-le (lengthAt s at - 1) (drop (at + 3) s) (omega (arith, length-at, whole-fits s at e, length-drop (at + 3) s))
+
+  -- L as the code has it, and that the information string is there
+  pub there : (len ≡ lengthAt s at) × (at + 2 + len ≤ length s)
+  there = (length-at, whole-fits s at e)
+
+  -- L of seconds to live, of a chassis ID, and of a port ID
+  pub seconds-inside : secondsOk kind len ≡ true → at + 4 ≤ length s
+  seconds-inside q = omega (arith, whole-fits s at e, eqb-true len 2 (both-true (eqb kind 3) (eqb len 2) q .1))
+
+  pub chassis-length : chassisOk (idIn s at) ≡ true → (2 ≤ lengthAt s at) × (lengthAt s at ≤ 65)
+  chassis-length q = let h = chassis-short (idIn s at) q in (omega (arith, id-octets), omega (arith, id-octets))
+
+  pub port-length : portOk (idIn s at) ≡ true → (2 ≤ lengthAt s at) × (lengthAt s at ≤ 256)
+  port-length q = let h = port-short (idIn s at) q in (omega (arith, id-octets), omega (arith, id-octets))
+
+-- The ID in an information string of len octets, as the code cuts it: from behind the subtype to the end, or none
+module _ (s : List ℕ) (at : ℕ) {len : ℕ} (n : len ≡ lengthAt s at) where
+  pub id-part : {end : ℕ} → end ≡ at + 2 + len → id (getD s (at + 2) 0) (take (end - (at + 3)) (drop (at + 3) s)) ≡ idIn s at
+  id-part {end} e =
+      let m : end - (at + 3) ≡ lengthAt s at - 1 = omega (arith, n, e) in
+      ap (λ (k : ℕ). id (getD s (at + 2) 0) (take k (drop (at + 3) s))) m
+
+  pub id-none : len ≡ 0 → length (idIn s at .octets) ≡ 0
+  id-none e = ap (λ (k : ℕ). length (take (k - 1) (drop (at + 3) s))) (sym n ∙ e)
+
+-- What the code has in hand of TLVs 1 and 2: where the next one begins, and that no sum wraps
+module _ (s : List ℕ) {kind len : ℕ} where
+  pub behind-first : headOf (drop 0 s) ≡ Whole kind len → isChassis s kind ≡ true → (2 + len ≡ portPlace s) × ((1 ≤ lengthAt s 0) × (2 + len < 1000))
+  unfolding portPlace
+  behind-first e q =
+      let n = length-at s 0 e in
+      let h = chassis-length s 0 e (both-true (eqb kind 1) (chassisOk (idIn s 0)) q .1) in
+      (ap (λ (k : ℕ). 2 + k) n, (omega arith, omega (arith, n)))
+
+  pub behind-second : {at : ℕ} → at ≡ portPlace s → 1 ≤ lengthAt s 0 → at < 1000 → headOf (drop at s) ≡ Whole kind len → isPort s kind ≡ true
+      → Behind s at (at + 2 + len)
+  unfolding secondsPlace
+  behind-second {at} p c near e q =
+      let n = length-at s at e in
+      let h = port-length s at e (rw p (both-true (eqb kind 2) (portOk (idIn s (portPlace s))) q .1)) in
+      record {
+        second = p;
+        third = ap (λ (k : ℕ). at + 2 + k) n ∙ ap (λ (k : ℕ). k + 2 + lengthAt s k) p;
+        some = (c, omega arith);
+        inside = whole-fits s at e;
+        near = omega (arith, n);
+      }
+
+-- an ID that reaches to the end of its TLV
+pub between-is : (s : List ℕ) (at : ℕ) {end : ℕ} → end ≡ at + 2 + lengthAt s at → idBetween s at end ≡ idAt s at
+between-is s at {end} e =
+    let n : end - at - 3 ≡ lengthAt s at - 1 = omega (arith, e) in
+    ap (λ (k : ℕ). record { subtype = getD s (at + 2) 0; octets = part (at + 3) k }) n
+
+-- at TLV 3: the places as sums, and the outline that the code puts together
+module _ (s : List ℕ) {port at : ℕ} (b : Behind s port at) where
+  pub behind-sums : (port ≡ 2 + lengthAt s 0) × (at ≡ port + 2 + lengthAt s port)
+  unfolding portPlace secondsPlace
+  behind-sums = (b .second, b .third ∙ ap (λ (k : ℕ). k + 2 + lengthAt s k) (sym (b .second)))
+
+  pub outline-is : (e : ℕ) {c p : IdPart} {n : ℕ} → c ≡ idBetween s 0 port → p ≡ idBetween s port at → n ≡ pairOf (getD s (at + 2) 0) (getD s (at + 3) 0)
+      → record { extent = Octets e; chassis = c; port = p; seconds = n } ≡ outlineAt (Octets e) s
+  outline-is e x y z =
+      let c = x ∙ between-is s 0 (behind-sums .0) in
+      let p = y ∙ between-is s port (behind-sums .1) ∙ ap (idAt s) (b .second) in
+      let n = z ∙ ap (λ (k : ℕ). pairOf (getD s (k + 2) 0) (getD s (k + 3) 0)) (b .third) in
+      λ i. record { extent = Octets e; chassis = c i; port = p i; seconds = n i }
+
+-- the header at a place, where the place is the one that is named
+pub head-there : (s : List ℕ) {at p : ℕ} {h : Head} → h ≡ headOf (drop at s) → at ≡ p → h ≡ headOf (drop p s)
+head-there s e q = e ∙ ap (λ (n : ℕ). headOf (drop n s)) q
 
 -- A valid LLDPDU of e octets
 
 pub record Good (s : List ℕ) (e : ℕ) : Type 0 where
-  pub first : headOf (drop 0 s) ≡ Whole 1 7
-  pub address : getD s 2 0 ≡ 4
-  pub second : headOf (drop 9 s) ≡ Whole 2 (portLength s)
-  pub port : portOk (getD s 11 0) 2 (portLength s) ≡ true
-  pub third : headOf (drop (11 + portLength s) s) ≡ Whole 3 2
+  pub first : headOf (drop 0 s) ≡ Whole 1 (lengthAt s 0)
+  pub chassis : chassisOk (idIn s 0) ≡ true
+  pub second : headOf (drop (portPlace s) s) ≡ Whole 2 (lengthAt s (portPlace s))
+  pub port : portOk (idIn s (portPlace s)) ≡ true
+  pub third : headOf (drop (secondsPlace s) s) ≡ Whole 3 2
   pub rest : restOf s .extent ≡ Octets e
 
 pub reads : (s : List ℕ) (e : ℕ) → Good s e → extentOf s ≡ Octets e
 unfolding extentOf behindChassis behindPort
-reads s e g = rw (g .first, g .address, g .second, g .port, g .third, g .rest)
+reads s e g = rw (g .first, g .chassis, g .second, g .port, g .third, g .rest)
 
 pub good : (s : List ℕ) (e : ℕ) → extentOf s ≡ Octets e → Good s e
 unfolding extentOf behindChassis behindPort
 good s e q =
-    let a = needed (headOf (drop 0 s)) (chassisOk (getD s 2 0)) (behindChassis s) e q in
-    let b = needed (headOf (drop 9 s)) (portOk (getD s 11 0)) (behindPort s) e (a .onward) in
-    let c = needed (headOf (drop (11 + portLength s) s)) secondsOk (restOf s .extent) e (b .onward) in
-    let x = held (eqb (a .kind) 1 ∷ eqb (a .len) 7 ∷ eqb (getD s 2 0) 4 ∷ []) (a .passes) in
-    let y : b .kind ≡ 2 = eqb-true (b .kind) 2 (both-true (eqb (b .kind) 2) _ (b .passes) .0) in
-    let p : b .len ≡ portLength s = port-length s (b .head) in
+    let a = needed (headOf (drop 0 s)) (λ kind len. isChassis s kind) (behindChassis s) e q in
+    let b = needed (headOf (drop (portPlace s) s)) (λ kind len. isPort s kind) (behindPort s) e (a .onward) in
+    let c = needed (headOf (drop (secondsPlace s) s)) secondsOk (restOf s .extent) e (b .onward) in
+    let x = both-true (eqb (a .kind) 1) (chassisOk (idIn s 0)) (a .passes) in
+    let y = both-true (eqb (b .kind) 2) (portOk (idIn s (portPlace s))) (b .passes) in
     let z = both-true (eqb (c .kind) 3) (eqb (c .len) 2) (c .passes) in
     record {
-      first = a .head ∙ ap₂ Whole (eqb-true (a .kind) 1 (x .0)) (eqb-true (a .len) 7 (x .1 .0));
-      address = eqb-true (getD s 2 0) 4 (x .1 .1 .0);
-      second = b .head ∙ ap₂ Whole y p;
-      port = rw (y, p) at (b .passes);
+      first = a .head ∙ ap₂ Whole (eqb-true (a .kind) 1 (x .0)) (length-at s 0 (a .head));
+      chassis = x .1;
+      second = b .head ∙ ap₂ Whole (eqb-true (b .kind) 2 (y .0)) (length-at s (portPlace s) (b .head));
+      port = y .1;
       third = c .head ∙ ap₂ Whole (eqb-true (c .kind) 3 (z .0)) (eqb-true (c .len) 2 (z .1));
       rest = c .onward;
     }
-
-pub good-port : {s : List ℕ} {e : ℕ} → Good s e → (2 ≤ portLength s) × (portLength s ≤ 256)
-good-port {s} g = port-short (getD s 11 0) 2 (portLength s) (g .port)
 
 -- an outline has the extent of its LLDPDU
 pub outline-extent : (l : List ℕ) → outlineOf l .extent ≡ extentOf l

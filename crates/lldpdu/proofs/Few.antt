@@ -6,12 +6,12 @@ use mathlib.Core.Path.{_≡_, refl}
 use mathlib.Core.List.{List, [], _∷_}
 use mathlib.Core.Bool.{Bool, true, false}
 use native.Mathlib.Omega.{arith}
-use lib.ListN.{take, drop, getD}
+use lib.ListN.{take, drop}
 use lib.Dec.{leb, ltb, eqb}
 use Rattle.tally.specs.Tests.{pick, both}
 use Rattle.octets.specs.Header.{lengthIn}
 use Rattle.walk.specs.Walk.{headOf, stepOf, onStep, walk}
-use Rattle.lldpdu.specs.Extent.{chassisOk, portOk, secondsOk, need, portLength, restOf, behindPort, behindChassis, extentOf}
+use Rattle.lldpdu.specs.Extent.{portPlace, secondsPlace, restPlace, isChassis, isPort, secondsOk, need, restOf, behindPort, behindChassis, extentOf}
 use Rattle.walk.specs.declared.Head.{Head}
 use Rattle.walk.specs.declared.Head.the-variants.{Short, Whole}
 use Rattle.walk.specs.declared.Step.{Step}
@@ -68,6 +68,6 @@ need-few (Whole kind len) ok next f = go (ok kind len)
 pub extent-few : (s : List ℕ) → Few (extentOf s)
 unfolding extentOf behindChassis behindPort
 extent-few s =
-    need-few (headOf (drop 0 s)) (chassisOk (getD s 2 0)) (behindChassis s)
-    (need-few (headOf (drop 9 s)) (portOk (getD s 11 0)) (behindPort s)
-    (need-few (headOf (drop (11 + portLength s) s)) secondsOk (restOf s .extent) (walk-few (drop (15 + portLength s) s) 0 (15 + portLength s))))
+    need-few (headOf (drop 0 s)) (λ kind len. isChassis s kind) (behindChassis s)
+    (need-few (headOf (drop (portPlace s) s)) (λ kind len. isPort s kind) (behindPort s)
+    (need-few (headOf (drop (secondsPlace s) s)) secondsOk (restOf s .extent) (walk-few (drop (restPlace s) s) 0 (restPlace s))))

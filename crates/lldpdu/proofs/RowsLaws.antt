@@ -6,7 +6,7 @@ use mathlib.Core.List.{List, [], _∷_}
 use mathlib.Core.Bool.{Bool, true, false, not}
 use native.Mathlib.Omega.{arith}
 use borrow.Author.Tests.{eqb-true, ne-eqb}
-use lib.ListN.{length, take, drop, getD}
+use lib.ListN.{length, take, drop}
 use lib.Dec.{leb, ltb, eqb}
 use Rattle.tally.specs.Tests.{pick, both, either}
 use Rattle.tally.specs.Due.{firstDue}
@@ -18,7 +18,7 @@ use Rattle.walk.specs.declared.Head.the-variants.{Short, Whole}
 use Rattle.walk.specs.declared.Step.the-variants as step
 use Rattle.walk.specs.declared.Extent.{Extent}
 use Rattle.walk.specs.declared.Extent.the-variants.{Refused, Octets}
-use Rattle.lldpdu.specs.Extent.{chassisOk, portOk, secondsOk, need, portLength, restOf, behindPort, behindChassis, extentOf}
+use Rattle.lldpdu.specs.Extent.{portPlace, secondsPlace, restPlace, isChassis, isPort, secondsOk, need, restOf, behindPort, behindChassis, extentOf}
 use Rattle.lldpdu.specs.Rows.{runsPast, fails, tlvRows, laterOk, laterRows, rowsOf}
 
 -- an extent's refusal, or the number that is due behind it
@@ -85,7 +85,7 @@ walk-rows (hi ∷ lo ∷ r) zero at rest = go (leb (lengthIn hi lo) (length r)) 
 pub extent-rows : (s : List ℕ) (rest : List (Bool × ℕ)) → firstDue (rowsOf s rest) ≡ dueIn (extentOf s) (firstDue rest)
 unfolding extentOf behindChassis behindPort rowsOf
 extent-rows s rest =
-    need-rows (headOf (drop 0 s)) (chassisOk (getD s 2 0)) (behindChassis s) (firstDue rest)
-    (need-rows (headOf (drop 9 s)) (portOk (getD s 11 0)) (behindPort s) (firstDue rest)
-    (need-rows (headOf (drop (11 + portLength s) s)) secondsOk (restOf s .extent) (firstDue rest)
-    (walk-rows (drop (15 + portLength s) s) 0 (15 + portLength s) rest)))
+    need-rows (headOf (drop 0 s)) (λ kind len. isChassis s kind) (behindChassis s) (firstDue rest)
+    (need-rows (headOf (drop (portPlace s) s)) (λ kind len. isPort s kind) (behindPort s) (firstDue rest)
+    (need-rows (headOf (drop (secondsPlace s) s)) secondsOk (restOf s .extent) (firstDue rest)
+    (walk-rows (drop (restPlace s) s) 0 (restPlace s) rest)))

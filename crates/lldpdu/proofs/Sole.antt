@@ -2,17 +2,17 @@
 -- The contracts are the toolchain's own reading of the source (`Post` of each function's `Reads`), so nothing is said twice.
 use mathlib.Core.Path.{sym, _∙_}
 use Rattle.tally.proofs.Sole.{Sole}
-use Rattle.lldpdu.proofs.extent.port_length.Kinds as port-length-kinds
-use Rattle.lldpdu.proofs.extent.port_length.Reads as port-length
-use Rattle.lldpdu.proofs.extent.extent_of.Kinds as extent-of-kinds
-use Rattle.lldpdu.proofs.extent.extent_of.Reads as extent-of
+use Rattle.lldpdu.proofs.places.rest_place.Kinds as rest-place-kinds
+use Rattle.lldpdu.proofs.places.rest_place.Reads as rest-place
+use Rattle.lldpdu.proofs.outline.extent_of.Kinds as extent-of-kinds
+use Rattle.lldpdu.proofs.outline.extent_of.Reads as extent-of
 use Rattle.lldpdu.proofs.outline.refused_outline.Kinds as refused-outline-kinds
 use Rattle.lldpdu.proofs.outline.refused_outline.Reads as refused-outline
 use Rattle.lldpdu.proofs.outline.outline_lldpdu.Kinds as outline-lldpdu-kinds
 use Rattle.lldpdu.proofs.outline.outline_lldpdu.Reads as outline-lldpdu
 
-pub port-length-sole : Sole 1 port-length-kinds.ps port-length-kinds.r port-length.Post
-port-length-sole κs a r q x y e f = e ∙ sym f
+pub rest-place-sole : Sole 1 rest-place-kinds.ps rest-place-kinds.r rest-place.Post
+rest-place-sole κs a r q x y e f = e ∙ sym f
 
 pub extent-of-sole : Sole 1 extent-of-kinds.ps extent-of-kinds.r extent-of.Post
 extent-of-sole κs a r q x y e f = e ∙ sym f

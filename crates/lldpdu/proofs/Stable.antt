@@ -12,13 +12,13 @@ use lib.Dec.{leb, ltb, eqb}
 use Rattle.tally.specs.Tests.{pick, both}
 use Rattle.octets.specs.Header.{kindIn, lengthIn}
 use Rattle.octets.specs.Numbers.{pairOf}
-use Rattle.octets.specs.Address.{sixAt}
 use Rattle.octets.proofs.PartLaws.{part-of-part}
 use Rattle.walk.specs.Walk.{headOf, stepOf, Walked, onStep, walk}
-use Rattle.lldpdu.specs.Extent.{portLength, restOf, extentOf}
+use Rattle.ids.specs.Id.{idMeant, chassisOk, portOk}
+use Rattle.lldpdu.specs.Extent.{lengthAt, portPlace, secondsPlace, restPlace, idAt, idIn, restOf, extentOf}
 use Rattle.lldpdu.specs.Outline.{secondsIn, outlineOf}
 use Rattle.walk.proofs.WalkLaws.{whole, is-whole, whole-fits}
-use Rattle.lldpdu.proofs.ExtentLaws.{not-both, Good, good, reads}
+use Rattle.lldpdu.proofs.ExtentLaws.{not-both, chassis-length, port-length, Good, good, reads}
 use Rattle.walk.specs.declared.Head.the-variants.{Short, Whole}
 use Rattle.walk.specs.declared.Step.{Step}
 use Rattle.walk.specs.declared.Step.the-variants as step
@@ -135,48 +135,101 @@ module _ (s t : List ℕ) (e : ℕ) (h : e ≤ length s) where
 
 -- A valid LLDPDU of e octets
 
--- where its parts lie
+-- where its parts lie: each TLV behind the one before it
 pub record Sized (s : List ℕ) (e : ℕ) : Type 0 where
-  pub seconds : 15 + portLength s ≤ e
+  pub chassis : 2 ≤ lengthAt s 0
+  pub second : portPlace s ≡ 2 + lengthAt s 0
+  pub port : 2 ≤ lengthAt s (portPlace s)
+  pub third : secondsPlace s ≡ portPlace s + 2 + lengthAt s (portPlace s)
+  pub seconds : restPlace s ≤ e
   pub whole-inside : e ≤ length s
 
 pub sized : {s : List ℕ} {e : ℕ} → Good s e → Sized s e
+unfolding portPlace secondsPlace
 sized {s} {e} g =
-    let i = ends (drop (15 + portLength s) s) 0 (15 + portLength s) e (g .rest) in
-    let f : 11 + portLength s + 2 + 2 ≤ length s = whole-fits s (11 + portLength s) (g .third) in
-    record { seconds = omega arith; whole-inside = omega (arith, length-drop (15 + portLength s) s) }
+    let i = ends (drop (restPlace s) s) 0 (restPlace s) e (g .rest) in
+    let f : secondsPlace s + 2 + 2 ≤ length s = whole-fits s (secondsPlace s) (g .third) in
+    record {
+      chassis = chassis-length s 0 (g .first) (g .chassis) .0;
+      second = refl;
+      port = port-length s (portPlace s) (g .second) (g .port) .0;
+      third = refl;
+      seconds = omega arith;
+      whole-inside = omega (arith, length-drop (restPlace s) s);
+    }
 
 -- what is the same of it and of its octets with anything behind them
 pub record Same (s u : List ℕ) (e : ℕ) : Type 0 where
-  pub port : portLength u ≡ portLength s
+  pub place : portPlace u ≡ portPlace s
+  pub third : secondsPlace u ≡ secondsPlace s
   pub rest : restOf u ≡ restOf s
   pub octet : (i : ℕ) → i < e → getD u i 0 ≡ getD s i 0
-  pub text : (a n : ℕ) → a + n ≤ e → take n (drop a u) ≡ take n (drop a s)
+  pub chassis-at : idAt u 0 ≡ idAt s 0
+  pub port-at : idAt u (portPlace s) ≡ idAt s (portPlace s)
+  pub chassis : idIn u 0 ≡ idIn s 0
+  pub port : idIn u (portPlace s) ≡ idIn s (portPlace s)
 
 module _ (s t : List ℕ) (e : ℕ) (g : Good s e) where
-  pub same-front : Same s (take e s ++ t) e
+  abbrev longer : List ℕ
+  longer = take e s ++ t
+
+  z : Sized s e
+  z = sized g
+
+  same-octet : (i : ℕ) → i < e → getD longer i 0 ≡ getD s i 0
+  same-octet = kept s t e (z .whole-inside)
+
+  -- a TLV whose two octets and information string lie in front
+  module _ (at : ℕ) (f : at + 2 + lengthAt s at ≤ e) where
+    same-length : lengthAt longer at ≡ lengthAt s at
+    same-length = ap₂ lengthIn (same-octet at (omega arith)) (same-octet (at + 1) (omega arith))
+
+    module _ (n : 1 ≤ lengthAt s at) where
+      same-at : idAt longer at ≡ idAt s at
+      same-at =
+          let l = same-length in
+          let b = same-octet (at + 2) (omega arith) in
+          rw (l, b)
+
+      same-id : idIn longer at ≡ idIn s at
+      same-id =
+          ap (idMeant longer) same-at
+          ∙ ap (λ (x : List ℕ). record { subtype = getD s (at + 2) 0; octets = x }) (kept-text s t e (z .whole-inside) (at + 3) (lengthAt s at - 1) (omega arith))
+
+  same-place : portPlace longer ≡ portPlace s
+  unfolding portPlace
+  same-place = ap (λ (n : ℕ). 2 + n) (same-length 0 (omega (arith, z)))
+
+  same-third : secondsPlace longer ≡ secondsPlace s
+  unfolding secondsPlace
+  same-third =
+      ap (λ (p : ℕ). p + 2 + lengthAt longer p) same-place
+      ∙ ap (λ (n : ℕ). portPlace s + 2 + n) (same-length (portPlace s) (omega (arith, z)))
+
+  pub same-front : Same s longer e
   same-front =
-      let z = sized g in
-      let k : (i : ℕ) → i < e → getD (take e s ++ t) i 0 ≡ getD s i 0 = kept s t e (z .whole-inside) in
-      let p : portLength (take e s ++ t) ≡ portLength s = ap₂ lengthIn (k 9 (omega arith)) (k 10 (omega arith)) in
       record {
-        port = p;
-        rest = ap (λ (n : ℕ). walk (drop (15 + n) (take e s ++ t)) 0 (15 + n)) p ∙ kept-walk s t e (z .whole-inside) (15 + portLength s) (g .rest);
-        octet = k;
-        text = kept-text s t e (z .whole-inside);
+        place = same-place;
+        third = same-third;
+        rest = ap (λ (n : ℕ). walk (drop (n + 4) longer) 0 (n + 4)) same-third ∙ kept-walk s t e (z .whole-inside) (restPlace s) (g .rest);
+        octet = same-octet;
+        chassis-at = same-at 0 (omega (arith, z)) (omega (arith, z));
+        port-at = same-at (portPlace s) (omega (arith, z)) (omega (arith, z));
+        chassis = same-id 0 (omega (arith, z)) (omega (arith, z));
+        port = same-id (portPlace s) (omega (arith, z)) (omega (arith, z));
       }
 
-  pub stays-good : Good (take e s ++ t) e
+  pub stays-good : Good longer e
   stays-good =
-      let z = sized g in
       let m = same-front in
-      let f : 11 + portLength s + 2 + 2 ≤ e = omega arith in
       record {
-        first = kept-head s t e (z .whole-inside) 0 1 7 (g .first) (omega arith);
-        address = m .octet 2 (omega arith) ∙ g .address;
-        second = kept-head s t e (z .whole-inside) 9 2 (portLength s) (g .second) (omega arith) ∙ ap (λ (n : ℕ). Whole 2 n) (sym (m .port));
-        port = rw (m .octet 11 (omega arith), m .port) (g .port);
-        third = rw (m .port) (kept-head s t e (z .whole-inside) (11 + portLength s) 3 2 (g .third) (omega arith));
+        first = kept-head s t e (z .whole-inside) 0 1 (lengthAt s 0) (g .first) (omega (arith, z)) ∙ ap (Whole 1) (sym (same-length 0 (omega (arith, z))));
+        chassis = ap chassisOk (m .chassis) ∙ g .chassis;
+        second =
+            rw (m .place)
+            (kept-head s t e (z .whole-inside) (portPlace s) 2 (lengthAt s (portPlace s)) (g .second) (omega (arith, z)) ∙ ap (Whole 2) (sym (same-length (portPlace s) (omega (arith, z)))));
+        port = rw (m .place) (ap portOk (m .port) ∙ g .port);
+        third = rw (m .third) (kept-head s t e (z .whole-inside) (secondsPlace s) 3 2 (g .third) (omega (arith, z)));
         rest = ap (λ (w : Walked). w .extent) (m .rest) ∙ g .rest;
       }
 
@@ -191,30 +244,12 @@ module _ (s t : List ℕ) (e : ℕ) (v : extentOf s ≡ Octets e) where
   pub front : Same s u e
   front = same-front s t e (good s e v)
 
-  seconds-inside : 15 + portLength s ≤ e
-  seconds-inside = sized (good s e v) .seconds
-
-  pub chassis-same : sixAt u 3 ≡ sixAt s 3
-  unfolding sixAt
-  chassis-same =
-      let k = front .octet in
-      let f = seconds-inside in
-      rw (k 3 (omega arith), k 4 (omega arith), k 5 (omega arith), k 6 (omega arith), k 7 (omega arith), k 8 (omega arith))
-
-  pub subtype-same : getD u 11 0 ≡ getD s 11 0
-  subtype-same = let f = seconds-inside in front .octet 11 (omega arith)
-
   pub seconds-same : secondsIn u ≡ secondsIn s
   seconds-same =
-      let f = seconds-inside in
-      ap (λ (p : ℕ). pairOf (getD u (13 + p) 0) (getD u (14 + p) 0)) (front .port)
-      ∙ ap₂ pairOf (front .octet (13 + portLength s) (omega arith)) (front .octet (14 + portLength s) (omega arith))
-
-  pub port-same : take (portLength u - 1) (drop 12 u) ≡ take (portLength s - 1) (drop 12 s)
-  port-same =
-      let f = seconds-inside in
-      ap (λ (p : ℕ). take (p - 1) (drop 12 u)) (front .port) ∙ front .text 12 (portLength s - 1) (omega arith)
+      let z = sized (good s e v) in
+      ap (λ (q : ℕ). pairOf (getD u (q + 2) 0) (getD u (q + 3) 0)) (front .third)
+      ∙ ap₂ pairOf (front .octet (secondsPlace s + 2) (omega arith)) (front .octet (secondsPlace s + 3) (omega arith))
 
   pub outline-stable : outlineOf u ≡ outlineOf s
   unfolding outlineOf
-  outline-stable = rw (extent-stable s t e v, v, chassis-same, subtype-same, seconds-same, front .port)
+  outline-stable = rw (extent-stable s t e v, v, front .place, front .chassis-at, front .port-at, seconds-same)

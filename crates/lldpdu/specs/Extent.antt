@@ -1,12 +1,15 @@
 -- The extent of an LLDPDU: the first three TLVs (L3 to L6), then the walk to End; refusals 4 to 6 front to back (R4 to R6, R11).
--- TLV 1 always has nine octets where it is as it should be, so TLV 2 begins at 9 and its information string at 11.
-use Prim.Native.Nat.{ℕ, _+_}
-use mathlib.Core.List.{List, [], _∷_}
+-- Each TLV begins where the one before it ends, by the L of that one.
+use Prim.Native.Nat.{ℕ, _+_, _-_}
+use mathlib.Core.List.{List}
 use mathlib.Core.Bool.{Bool}
 use lib.ListN.{drop, getD}
-use lib.Dec.{leb, eqb}
-use Rattle.tally.specs.Tests.{pick, both, all}
+use lib.Dec.{eqb}
+use Rattle.tally.specs.Tests.{pick, both}
 use Rattle.octets.specs.Header.{lengthIn}
+use Rattle.text.specs.Part.{part}
+use Rattle.ids.specs.Id.{Id, idMeant, chassisOk, portOk}
+use Rattle.ids.specs.declared.IdPart.{IdPart}
 use Rattle.walk.specs.Walk.{headOf, Walked, walk}
 use Rattle.walk.specs.declared.Head.{Head}
 use Rattle.walk.specs.declared.Head.the-variants.{Short, Whole}
@@ -22,13 +25,40 @@ abbrev pub octetsIn : Extent → ℕ
 octetsIn (Refused n) = 0
 octetsIn (Octets e) = e
 
--- L3, L4, L5, by subtype, type and L
-abbrev pub chassisOk : ℕ → ℕ → ℕ → Bool
-chassisOk subtype kind len = all (eqb kind 1 ∷ eqb len 7 ∷ eqb subtype 4 ∷ [])
+-- Where the first three stand, whatever they are
 
-abbrev pub portOk : ℕ → ℕ → ℕ → Bool
-portOk subtype kind len = all (eqb kind 2 ∷ leb 2 len ∷ leb len 256 ∷ leb 1 subtype ∷ leb subtype 7 ∷ [])
+-- L of the TLV at a place
+abbrev pub lengthAt : List ℕ → ℕ → ℕ
+lengthAt s at = lengthIn (getD s at 0) (getD s (at + 1) 0)
 
+-- TLV 2 begins behind TLV 1, and TLV 3 behind TLV 2
+unfoldable pub portPlace : List ℕ → ℕ
+portPlace s = 2 + lengthAt s 0
+
+unfoldable pub secondsPlace : List ℕ → ℕ
+secondsPlace s = portPlace s + 2 + lengthAt s (portPlace s)
+
+-- behind TLV 3, which has four octets where it is as it should be
+abbrev pub restPlace : List ℕ → ℕ
+restPlace s = secondsPlace s + 4
+
+-- the ID in the TLV at a place: its subtype, and the octets behind that (L3, L4); with L = 0 it has no octets, and so is never right
+abbrev pub idAt : List ℕ → ℕ → IdPart
+idAt s at = record { subtype = getD s (at + 2) 0; octets = part (at + 3) (lengthAt s at - 1) }
+
+abbrev pub idIn : List ℕ → ℕ → Id
+idIn s at = idMeant s (idAt s at)
+
+-- What they must be
+
+-- L3, L4: the type, and the ID behind the header
+abbrev pub isChassis : List ℕ → ℕ → Bool
+isChassis s kind = both (eqb kind 1) (chassisOk (idIn s 0))
+
+abbrev pub isPort : List ℕ → ℕ → Bool
+isPort s kind = both (eqb kind 2) (portOk (idIn s (portPlace s)))
+
+-- L5: type and L
 abbrev pub secondsOk : ℕ → ℕ → Bool
 secondsOk kind len = both (eqb kind 3) (eqb len 2)
 
@@ -37,19 +67,15 @@ abbrev pub need : Head → (ℕ → ℕ → Bool) → Extent → Extent
 need Short ok next = Refused 5
 need (Whole kind len) ok next = pick (ok kind len) next (Refused 4)
 
--- L of TLV 2, whatever stands there
-abbrev pub portLength : List ℕ → ℕ
-portLength s = lengthIn (getD s 9 0) (getD s 10 0)
-
 -- the walk behind the first three
 abbrev pub restOf : List ℕ → Walked
-restOf s = walk (drop (15 + portLength s) s) 0 (15 + portLength s)
+restOf s = walk (drop (restPlace s) s) 0 (restPlace s)
 
 unfoldable pub behindPort : List ℕ → Extent
-behindPort s = need (headOf (drop (11 + portLength s) s)) secondsOk (restOf s .extent)
+behindPort s = need (headOf (drop (secondsPlace s) s)) secondsOk (restOf s .extent)
 
 unfoldable pub behindChassis : List ℕ → Extent
-behindChassis s = need (headOf (drop 9 s)) (portOk (getD s 11 0)) (behindPort s)
+behindChassis s = need (headOf (drop (portPlace s) s)) (λ kind len. isPort s kind) (behindPort s)
 
 unfoldable pub extentOf : List ℕ → Extent
-extentOf s = need (headOf (drop 0 s)) (chassisOk (getD s 2 0)) (behindChassis s)
+extentOf s = need (headOf (drop 0 s)) (λ kind len. isChassis s kind) (behindChassis s)

@@ -1,35 +1,42 @@
 -- The outline of an LLDPDU: extent, chassis, port ID and seconds (A1).
 -- What stands beside a refusal is 0 throughout, so that a refusal fixes the whole answer (R12).
-use Prim.Native.Nat.{ℕ, _+_, _-_}
+use Prim.Native.Nat.{ℕ, _+_, _-_, _≤_, _<_}
+use mathlib.Core.Path.{_≡_}
 use mathlib.Core.List.{List}
-use lib.ListN.{getD, replicate}
+use lib.ListN.{length, getD}
 use Rattle.octets.specs.Numbers.{pairOf}
-use Rattle.octets.specs.Address.{sixAt}
-use Rattle.lldpdu.specs.Extent.{portLength, extentOf}
+use Rattle.text.specs.Part.{part}
+use Rattle.ids.specs.declared.IdPart.{IdPart}
+use Rattle.lldpdu.specs.Extent.{lengthAt, portPlace, secondsPlace, idAt, extentOf}
 use Rattle.walk.specs.declared.Extent.{Extent}
 use Rattle.walk.specs.declared.Extent.the-variants.{Refused, Octets}
-use Rattle.text.specs.Part.{part}
-use Rattle.text.specs.declared.Part.{Part}
 use Rattle.lldpdu.specs.declared.outline.Outline.{Outline}
 
-abbrev pub noAddress : List ℕ
-noAddress = replicate 6 0
+-- the ID in the TLV from a place to its end; where that end is the TLV's own, it is idAt
+abbrev pub idBetween : List ℕ → ℕ → ℕ → IdPart
+idBetween s at end = record { subtype = getD s (at + 2) 0; octets = part (at + 3) (end - at - 3) }
+
+-- what the code needs at TLV 3: where TLVs 2 and 3 begin, and that the IDs before it lie inside
+pub record Behind (s : List ℕ) (port at : ℕ) : Type 0 where
+  pub second : port ≡ portPlace s
+  pub third : at ≡ secondsPlace s
+  pub some : (1 ≤ lengthAt s 0) × (1 ≤ lengthAt s port)
+  pub inside : at ≤ length s
+  pub near : at < 2000
+
+abbrev pub noId : IdPart
+noId = record { subtype = 0; octets = part 0 0 }
 
 -- seconds to live stand behind the two octets of TLV 3's header (L5)
 abbrev pub secondsIn : List ℕ → ℕ
-secondsIn s = pairOf (getD s (13 + portLength s) 0) (getD s (14 + portLength s) 0)
-
--- the port ID without its subtype (L4)
-abbrev pub portPart : List ℕ → Part
-portPart s = part 12 (portLength s - 1)
+secondsIn s = pairOf (getD s (secondsPlace s + 2) 0) (getD s (secondsPlace s + 3) 0)
 
 abbrev pub refusedOutline : ℕ → Outline
-refusedOutline n = record { extent = Refused n; chassis = noAddress; subtype = 0; port = part 0 0; seconds = 0 }
+refusedOutline n = record { extent = Refused n; chassis = noId; port = noId; seconds = 0 }
 
 abbrev pub outlineAt : Extent → List ℕ → Outline
 outlineAt (Refused n) s = refusedOutline n
-outlineAt (Octets e) s =
-    record { extent = Octets e; chassis = sixAt s 3; subtype = getD s 11 0; port = portPart s; seconds = secondsIn s }
+outlineAt (Octets e) s = record { extent = Octets e; chassis = idAt s 0; port = idAt s (portPlace s); seconds = secondsIn s }
 
 unfoldable pub outlineOf : List ℕ → Outline
 outlineOf s = outlineAt (extentOf s) s

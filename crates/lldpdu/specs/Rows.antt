@@ -1,16 +1,16 @@
 -- Refusals 4, 5 and 6 as rows, TLV by TLV from the front (R4, R5, R6, R11): 4 or 6 is asked only of a TLV that is whole, so 5 goes before them.
 -- A row is asked only where none before it is due; the first that is due is the refusal that extentOf gives (RowsLaws.antt).
-use Prim.Native.Nat.{ℕ, zero, suc, _+_}
+use Prim.Native.Nat.{ℕ, zero, suc}
 use mathlib.Core.List.{List, [], _∷_}
 use mathlib.Core.Bool.{Bool, true, false, not}
-use lib.ListN.{drop, getD}
+use lib.ListN.{drop}
 use lib.Dec.{leb, ltb, eqb}
 use Rattle.tally.specs.Tests.{pick, both, either}
 use Rattle.octets.specs.Header.{kindIn, lengthIn}
 use Rattle.walk.specs.Walk.{headOf}
 use Rattle.walk.specs.declared.Head.{Head}
 use Rattle.walk.specs.declared.Head.the-variants.{Short, Whole}
-use Rattle.lldpdu.specs.Extent.{chassisOk, portOk, secondsOk, portLength}
+use Rattle.lldpdu.specs.Extent.{portPlace, secondsPlace, restPlace, isChassis, isPort, secondsOk}
 
 -- header or body runs past the end
 abbrev pub runsPast : Head → Bool
@@ -42,7 +42,7 @@ laterRows (hi ∷ lo ∷ r) zero rest =
 -- the whole LLDPDU, then the rows `rest`
 unfoldable pub rowsOf : List ℕ → List (Bool × ℕ) → List (Bool × ℕ)
 rowsOf s rest =
-    tlvRows (headOf (drop 0 s)) (chassisOk (getD s 2 0)) 4
-    (tlvRows (headOf (drop 9 s)) (portOk (getD s 11 0)) 4
-    (tlvRows (headOf (drop (11 + portLength s) s)) secondsOk 4
-    (laterRows (drop (15 + portLength s) s) 0 rest)))
+    tlvRows (headOf (drop 0 s)) (λ kind len. isChassis s kind) 4
+    (tlvRows (headOf (drop (portPlace s) s)) (λ kind len. isPort s kind) 4
+    (tlvRows (headOf (drop (secondsPlace s) s)) secondsOk 4
+    (laterRows (drop (restPlace s) s) 0 rest)))

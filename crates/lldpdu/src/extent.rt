@@ -1,56 +1,49 @@
-// The extent of an LLDPDU: refusal 4, 5 or 6, or the number of its octets through the End TLV.
-// TLVs are judged front to back; what follows End is never looked at (L8).
+// What an LLDPDU must be: each of the first three TLVs by itself, and the TLVs behind them, to End.
+// What follows End is never looked at (L8).
 ghost use mathlib.Core.Path.{_≡_};
 ghost use Prim.Native.Nat.{_+_, _≤_};
-ghost use lib.ListN.{drop};
+ghost use lib.ListN.{length, drop};
 ghost use Rattle.walk.specs.Walk.{walk};
-ghost use Rattle.lldpdu.specs.Extent.{chassisOk, portOk, secondsOk, portLength, extentOf, behindPort, behindChassis};
-use octets::len_of;
-use octets::octet;
+ghost use Rattle.lldpdu.specs.Extent.{lengthAt, portPlace, isChassis, isPort, secondsOk};
+use ids::chassis_fits;
+use ids::port_fits;
 use walk::Extent;
-use walk::Head;
-use walk::RUNS_PAST;
 use walk::Step;
-use walk::head_at;
 use walk::step_at;
 
-// Refusal: one of the first three TLVs is not as it should be (R4).
-const NOT_AS_DUE: u8 = 4;
-
-// TLV 1 (L3).
-fn chassis_fits(kind: u8, len: usize, subtype: u8) -> bool
-    ensures { λ r. ⌜ r ≡ chassisOk subtype kind len ⌝ }
+// TLV 1 (L3), whose information string has len octets.
+pub(crate) fn is_chassis(s: &[u8], kind: u8, len: usize) -> bool
+    requires { ⌜ (len ≡ lengthAt (now s) 0) × (2 + len ≤ length (now s)) ⌝ }
+    ensures { λ r. ⌜ r ≡ isChassis (now (s .entry)) kind ⌝ }
 {
     if kind != 1 {
         return false;
     }
-    if len != 7 {
+    if len == 0 {
         return false;
     }
-    subtype == 4
+    let end = 2 + len;
+    chassis_fits(s[2], &s[3..end])
 }
 
-// TLV 2 (L4).
-fn port_fits(kind: u8, len: usize, subtype: u8) -> bool
-    ensures { λ r. ⌜ r ≡ portOk subtype kind len ⌝ }
+// TLV 2 (L4), which begins at a place.
+pub(crate) fn is_port(s: &[u8], at: usize, kind: u8, len: usize) -> bool
+    requires { ⌜ (at ≡ portPlace (now s)) × ((len ≡ lengthAt (now s) at) × (at + 2 + len ≤ length (now s))) ⌝ }
+    ensures { λ r. ⌜ r ≡ isPort (now (s .entry)) kind ⌝ }
 {
     if kind != 2 {
         return false;
     }
-    if len < 2 {
+    if len == 0 {
         return false;
     }
-    if len > 256 {
-        return false;
-    }
-    if subtype < 1 {
-        return false;
-    }
-    subtype <= 7
+    let start = at + 3;
+    let end = at + 2 + len;
+    port_fits(s[at + 2], &s[start..end])
 }
 
 // TLV 3 (L5).
-fn seconds_fit(kind: u8, len: usize) -> bool
+pub(crate) fn seconds_fit(kind: u8, len: usize) -> bool
     ensures { λ r. ⌜ r ≡ secondsOk kind len ⌝ }
 {
     if kind != 3 {
@@ -59,15 +52,8 @@ fn seconds_fit(kind: u8, len: usize) -> bool
     len == 2
 }
 
-// The length of TLV 2's information string.
-pub fn port_length(s: &[u8]) -> usize
-    ensures { λ r. ⌜ r ≡ portLength (now (s .entry)) ⌝ }
-{
-    len_of(octet(s, 9), octet(s, 10))
-}
-
 // The TLVs from a place on, to End.
-fn rest_extent(s: &[u8], from: usize) -> Extent
+pub(crate) fn rest_extent(s: &[u8], from: usize) -> Extent
     ensures { λ r. ⌜ r ≡ walk (drop from (now (s .entry))) 0 from .extent ⌝ }
 {
     let mut at = from;
@@ -85,52 +71,6 @@ fn rest_extent(s: &[u8], from: usize) -> Extent
                 len,
             } => {
                 at = start + len;
-            }
-        }
-    }
-}
-
-fn behind_port(s: &[u8], p: usize) -> Extent
-    requires { ⌜ (p ≡ portLength (now s)) × (p ≤ 256) ⌝ }
-    ensures { λ r. ⌜ r ≡ behindPort (now (s .entry)) ⌝ }
-{
-    match head_at(s, 11 + p) {
-        Head::Short => Extent::Refused(RUNS_PAST),
-        Head::Whole { kind, len } => {
-            if seconds_fit(kind, len) {
-                rest_extent(s, 15 + p)
-            } else {
-                Extent::Refused(NOT_AS_DUE)
-            }
-        }
-    }
-}
-
-fn behind_chassis(s: &[u8]) -> Extent
-    ensures { λ r. ⌜ r ≡ behindChassis (now (s .entry)) ⌝ }
-{
-    match head_at(s, 9) {
-        Head::Short => Extent::Refused(RUNS_PAST),
-        Head::Whole { kind, len } => {
-            if port_fits(kind, len, octet(s, 11)) {
-                behind_port(s, len)
-            } else {
-                Extent::Refused(NOT_AS_DUE)
-            }
-        }
-    }
-}
-
-pub fn extent_of(s: &[u8]) -> Extent
-    ensures { λ r. ⌜ r ≡ extentOf (now (s .entry)) ⌝ }
-{
-    match head_at(s, 0) {
-        Head::Short => Extent::Refused(RUNS_PAST),
-        Head::Whole { kind, len } => {
-            if chassis_fits(kind, len, octet(s, 2)) {
-                behind_chassis(s)
-            } else {
-                Extent::Refused(NOT_AS_DUE)
             }
         }
     }

@@ -15,7 +15,7 @@ use Rattle.tally.proofs.TestsLaws.{all-fails}
 use Rattle.octets.specs.Numbers.{pairOf}
 use Rattle.whole.specs.Whole.{zeros}
 use Rattle.lldpdu.specs.Outline.{outlineOf}
-use Rattle.text.specs.Part.{textOf}
+use Rattle.ids.specs.Id.{idMeant}
 use Rattle.walk.specs.declared.Extent.{Extent}
 use Rattle.walk.specs.declared.Extent.the-variants.{Refused, Octets}
 use Rattle.lldpdu.specs.declared.outline.Outline.{Outline}
@@ -23,11 +23,15 @@ use Rattle.numbers.specs.Sizes.{ports}
 use Rattle.place.proofs.WhoseLaws.{outline-ident}
 use Rattle.place.specs.State.{Place, size, ident}
 use Rattle.marks.specs.PlaceFit.{exactly, whole, okFree, okUsed, okPlace}
-use Rattle.marks.specs.Marks.{lastTwo, identityMark, check, checkFree, checkUsed, checkPlace}
+use Rattle.marks.specs.Marks.{lastOne, lastTwo, identityMark, check, checkFree, checkUsed, checkPlace}
 use Rattle.marks.specs.declared.Check.{Check}
 use Rattle.marks.specs.declared.Check.the-variants.{Unfit, Mark}
 
--- The last two octets, and the mark
+-- The last octets
+
+pub last-none : (l : List ℕ) → length l ≡ 0 → 0 ≡ lastOne l
+last-none [] e = refl
+last-none (x ∷ l) e = absurd (omega arith)
 
 pub last-few : (l : List ℕ) → length l < 2 → getD l 0 0 ≡ lastTwo l
 unfolding lastTwo
@@ -99,9 +103,9 @@ module _ (p left : ℕ) (l rest : List ℕ) {o : Outline} (e : o ≡ outlineOf l
     unfolding checkUsed
     used-rest z = sym (rw (t, z))
 
-    pub used-fit : {c : ℕ} {i : List ℕ} → zeros rest ≡ true → c ≡ identityMark (ident p (o .chassis) (o .subtype) i) → i ≡ textOf l (o .port) → Mark c ≡ checkUsed p left l rest
+    pub used-fit : {c : ℕ} → zeros rest ≡ true → c ≡ identityMark (ident p (idMeant l (o .chassis)) (idMeant l (o .port))) → Mark c ≡ checkUsed p left l rest
     unfolding checkUsed
-    used-fit z w v = ap Mark (w ∙ ap (λ (j : List ℕ). identityMark (ident p (o .chassis) (o .subtype) j)) v ∙ ap identityMark (outline-ident p l e)) ∙ sym (rw (t, z))
+    used-fit z w = ap Mark (w ∙ ap identityMark (outline-ident p l e)) ∙ sym (rw (t, z))
 
 -- A place
 

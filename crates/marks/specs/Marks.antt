@@ -19,11 +19,15 @@ use Rattle.marks.specs.declared.Check.{Check}
 use Rattle.marks.specs.declared.Check.the-variants.{Unfit, Mark}
 use Rattle.marks.specs.declared.Marks.{Marks}
 
+-- the last octet, wherever it lies; the last two
+abbrev pub lastOne : List ℕ → ℕ
+lastOne l = getD l (length l - 1) 0
+
 unfoldable pub lastTwo : List ℕ → ℕ
 lastTwo l = pick (ltb (length l) 2) (getD l 0 0) (pairOf (getD l (length l - 2) 0) (getD l (length l - 1) 0))
 
 unfoldable pub identityMark : Ident → ℕ
-identityMark w = pairOf (w .port) (getD (w .chassis) 5 0) * 65536 + lastTwo (w .portId)
+identityMark w = pairOf (w .port) (lastOne (w .chassis .octets)) * 65536 + lastTwo (w .portId .octets)
 
 abbrev pub markAt : Place → ℕ
 markAt x = pick (used x) (identityMark (whoAt x)) 0

@@ -4,9 +4,11 @@ ghost use mathlib.Core.Path.{_≡_};
 ghost use mathlib.Core.Bool.{false};
 ghost use Prim.Native.Nat.{_<_};
 ghost use lib.ListN.{replicate};
+ghost use Rattle.ids.specs.Id.{idMeant};
 ghost use Rattle.numbers.specs.Sizes.{places};
 ghost use Rattle.place.specs.State.{at, state, ident};
-ghost use Rattle.marks.specs.Marks.{lastTwo, identityMark, checkFree, checkUsed, checkPlace, Checks};
+ghost use Rattle.marks.specs.Marks.{lastOne, lastTwo, identityMark, checkFree, checkUsed, checkPlace, Checks};
+use ids::IdPart;
 use lldpdu::Extent;
 use lldpdu::outline_lldpdu;
 use numbers::PLACES;
@@ -31,6 +33,16 @@ pub struct Marks {
     pub marks: [u32; PLACES],
 }
 
+fn last_one(octets: &[u8]) -> u8
+    ensures { λ r. ⌜ r ≡ lastOne (now (octets .entry)) ⌝ }
+{
+    let n = octets.len();
+    if n == 0 {
+        return 0;
+    }
+    octets[n - 1]
+}
+
 fn last_two(id: &[u8]) -> u16
     ensures { λ r. ⌜ r ≡ lastTwo (now (id .entry)) ⌝ }
 {
@@ -43,10 +55,11 @@ fn last_two(id: &[u8]) -> u16
 
 // The mark of an identity: unequal marks tell unequal identities, and cost one comparison of a number.
 // It takes the last octets, since the first ones of a chassis are its maker's.
-fn identity_mark(p: u8, chassis: [u8; 6], subtype: u8, id: &[u8]) -> u32
-    ensures { λ r. ⌜ r ≡ identityMark (ident p chassis subtype (now (id .entry))) ⌝ }
+fn identity_mark(p: u8, text: &[u8], chassis: IdPart, port: IdPart) -> u32
+    ensures { λ r. ⌜ r ≡ identityMark (ident p (idMeant (now (text .entry)) chassis) (idMeant (now (text .entry)) port)) ⌝ }
 {
-    pair(p, chassis[5]) as u32 * 65536 + last_two(id) as u32
+    let front = pair(p, last_one(text_of(text, chassis.octets)));
+    front as u32 * 65536 + last_two(text_of(text, port.octets)) as u32
 }
 
 // A free place has numbers 0 and octets 0 (N5 b).
@@ -85,8 +98,7 @@ fn check_used(p: u8, left: u16, l: &[u8], rest: &[u8]) -> Check
                 return Check::Unfit;
             }
             if all_zero(rest) {
-                let chassis = o.chassis;
-                Check::Mark(identity_mark(p, chassis, o.subtype, text_of(l, o.port)))
+                Check::Mark(identity_mark(p, l, o.chassis, o.port))
             } else {
                 Check::Unfit
             }

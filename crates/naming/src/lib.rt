@@ -10,7 +10,7 @@ use fields::field_of;
 use links::names;
 use lldpdu::Extent;
 use lldpdu::extent_of;
-use lldpdu::port_length;
+use lldpdu::rest_place;
 use octets::octet;
 use octets::value_of;
 use walk::Step;
@@ -93,6 +93,6 @@ pub fn link_naming(s: &[u8], address: [u8; 6]) -> Naming
 {
     match extent_of(s) {
         Extent::Refused(n) => Naming::Refused(n),
-        Extent::Octets(_) => naming_from(s, 15 + port_length(s), address),
+        Extent::Octets(_) => naming_from(s, rest_place(s), address),
     }
 }

@@ -25,7 +25,8 @@ listInside n (list-is.Listed a) = partInside n a
 
 abbrev pub partRules : ℕ → Description → List Bool
 partRules n d =
-    partInside n (d .port)
+    partInside n (d .chassis .octets)
+    ∷ partInside n (d .port .octets)
     ∷ partInside n (d .words)
     ∷ partInside n (d .category)
     ∷ partInside n (d .manufacturer)

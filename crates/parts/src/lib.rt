@@ -44,7 +44,12 @@ fn list_inside(n: usize, l: AddressList) -> bool
 pub fn all_inside(n: usize, d: Description) -> bool
     ensures { λ r. ⌜ r ≡ allInside n d ⌝ }
 {
-    if !part_inside(n, d.port) {
+    let chassis = d.chassis;
+    let port = d.port;
+    if !part_inside(n, chassis.octets) {
+        return false;
+    }
+    if !part_inside(n, port.octets) {
         return false;
     }
     if !part_inside(n, d.words) {

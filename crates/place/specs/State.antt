@@ -10,7 +10,7 @@ use Rattle.tally.specs.Tests.{pick, both, all}
 use Rattle.tally.specs.Counts.{count, firstFrom}
 use Rattle.whole.specs.Whole.{filled}
 use Rattle.lldpdu.specs.Outline.{outlineOf}
-use Rattle.text.specs.Part.{textOf}
+use Rattle.ids.specs.Id.{Id, idMeant}
 use Rattle.rules.specs.Identity.{Ident, same}
 use Rattle.rules.specs.Events.{Announcement, whose}
 use Rattle.numbers.specs.Sizes.{places}
@@ -89,15 +89,14 @@ keep p left l = record { port = p; seconds = left; len = length l; body = filled
 
 -- Identity (N2), by what the reader says of an LLDPDU
 
-abbrev pub ident : ℕ → List ℕ → ℕ → List ℕ → Ident
-ident p c u i = record { port = p; chassis = c; subtype = u; portId = i }
+abbrev pub ident : ℕ → Id → Id → Ident
+ident p c i = record { port = p; chassis = c; portId = i }
 
 unfoldable pub said : List ℕ → Announcement
 said l =
     record {
-      chassis = outlineOf l .chassis;
-      subtype = outlineOf l .subtype;
-      portId = textOf l (outlineOf l .port);
+      chassis = idMeant l (outlineOf l .chassis);
+      portId = idMeant l (outlineOf l .port);
       seconds = outlineOf l .seconds;
       octets = l;
     }
@@ -106,8 +105,8 @@ abbrev pub whoAt : Place → Ident
 whoAt x = whose (x .port) (said (lldpduAt x))
 
 -- an LLDPDU has this chassis and port ID, whatever the port
-unfoldable pub isFrom : List ℕ → List ℕ → ℕ → List ℕ → Bool
-isFrom l c u i = same (whose 0 (said l)) (ident 0 c u i)
+unfoldable pub isFrom : List ℕ → Id → Id → Bool
+isFrom l c i = same (whose 0 (said l)) (ident 0 c i)
 
 -- place k has a record of w
 unfoldable pub isOf : State → Ident → ℕ → Bool

@@ -1,16 +1,17 @@
 // One place of the table: its numbers in the struct and its 1,500 octets in the buffer (N1), and whose it is (N2).
 // Any place of any buffer can be named: past the last nothing is kept, and a buffer of another length is read as far as it goes and never written.
 ghost use mathlib.Core.Path.{_≡_};
+ghost use Rattle.ids.specs.Id.{idMeant};
 ghost use Rattle.place.specs.State.{at, putThere, free, state, lldpduAt, keep, isOf, isFrom, ident};
+use ids::IdPart;
+use ids::same_id;
 use lldpdu::outline_lldpdu;
 use numbers::PLACES;
 use numbers::Table;
-use octets::same_six;
 use text::Part;
 use text::text_of;
 use whole::clear;
 use whole::fill;
-use whole::same;
 
 // The octets of a place and of the whole buffer (N1).
 pub const SIZE: usize = 1500;
@@ -82,31 +83,28 @@ pub fn store(t: Table, buffer: &mut [u8], i: usize, p: u8, left: u16, l: &[u8]) 
     u
 }
 
-// Whether an LLDPDU has this chassis and port ID (N2).
-fn is_from(l: &[u8], chassis: [u8; 6], subtype: u8, id: &[u8]) -> bool
-    ensures { λ r. ⌜ r ≡ isFrom (now (l .entry)) chassis subtype (now (id .entry)) ⌝ }
+// Whether an LLDPDU has the chassis and the port ID that are given as parts of a text (N2).
+fn is_from(l: &[u8], text: &[u8], chassis: IdPart, port: IdPart) -> bool
+    ensures { λ r. ⌜ r ≡ isFrom (now (l .entry)) (idMeant (now (text .entry)) chassis) (idMeant (now (text .entry)) port) ⌝ }
 {
     let o = outline_lldpdu(l);
-    let own = o.chassis;
-    if same_six(own, chassis) {
-        if o.subtype == subtype {
-            return same(text_of(l, o.port), id);
-        }
+    if same_id(l, o.chassis, text, chassis) {
+        return same_id(l, o.port, text, port);
     }
     false
 }
 
-// Whether place i has a record with this identity (N2).
+// Whether place i has a record with the identity of this port and of two parts of a text (N2).
 pub fn is_of(
     t: Table,
     buffer: &[u8],
     i: usize,
     p: u8,
-    chassis: [u8; 6],
-    subtype: u8,
-    id: &[u8],
+    text: &[u8],
+    chassis: IdPart,
+    port: IdPart,
 ) -> bool
-    ensures { λ r. ⌜ r ≡ isOf (state t (now (buffer .entry))) (ident p chassis subtype (now (id .entry))) i ⌝ }
+    ensures { λ r. ⌜ r ≡ isOf (state t (now (buffer .entry))) (ident p (idMeant (now (text .entry)) chassis) (idMeant (now (text .entry)) port)) i ⌝ }
 {
     if i >= PLACES {
         return false;
@@ -117,5 +115,5 @@ pub fn is_of(
     if t.port[i] != p {
         return false;
     }
-    is_from(lldpdu_at(t, buffer, i), chassis, subtype, id)
+    is_from(lldpdu_at(t, buffer, i), text, chassis, port)
 }

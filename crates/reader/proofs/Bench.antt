@@ -1,11 +1,12 @@
--- The bench frames B1 to B12: one table of frames and answers, and one computed test of it against the rules.
+-- The bench frames B1 to B12 and B14 to B16: one table of frames and answers, and one computed test of it against the rules.
 -- Verdicts, lengths and every field are in it; the code's answers mean the same by its contract. Then frame A from other sources (F4).
 use Prim.Native.Nat.{ℕ}
 use mathlib.Core.Path.{_≡_, refl}
 use mathlib.Core.List.{List, [], _∷_, _++_, map}
 use mathlib.Core.Bool.{Bool, true, false}
 use mathlib.Core.Option.{none}
-use lib.ListN.{take, drop}
+use lib.ListN.{take, drop, replicate}
+use Rattle.tally.specs.Ranges.{allBelow}
 use Rattle.octets.specs.Address.{sixAt, sameOctets, isGroup}
 use Rattle.strings.specs.Text.{charOk, textOk}
 use Rattle.strings.specs.Wants.{wantedOf}
@@ -13,7 +14,8 @@ use Rattle.fields.specs.Device.{deviceOf}
 use Rattle.links.specs.Link.{linkOk, listOk}
 use Rattle.fields.specs.Field.{descriptionOf, linkOf, listOf, isTtc, ttcOf, fieldOf}
 use Rattle.walk.specs.Walk.{headOf, stepOf, walk}
-use Rattle.lldpdu.specs.Extent.{behindPort, behindChassis, extentOf}
+use Rattle.ids.specs.Id.{Id, id, chassisOk, portOk}
+use Rattle.lldpdu.specs.Extent.{portPlace, secondsPlace, behindPort, behindChassis, extentOf}
 use Rattle.found.specs.Contents.{contents, wellFormed, htipOf}
 use Rattle.reading.specs.Meaning.{ReaderAnswer, refusedAnswer, answerOf}
 use Rattle.reader.specs.Frame.{everyone, nearest, frameOk, onFrame}
@@ -46,21 +48,20 @@ first = chassis ++ port ++ seconds
 abbrev frame-a : List ℕ
 frame-a = header ++ first ++ category ++ number ++ end
 
--- a valid frame of n octets, with verdict h and category c
-abbrev valid : ℕ → Bool → List ℕ → ReaderAnswer
-valid n h c =
+-- a valid frame of n octets, with chassis c, verdict h and category k
+abbrev from : Id → ℕ → Bool → List ℕ → ReaderAnswer
+from c n h k =
     record {
       refusal = 0;
       octets = n;
       htip = h;
       said =
           record {
-            chassis = 0x02 ∷ 0x00 ∷ 0x00 ∷ 0x00 ∷ 0x00 ∷ 0x01 ∷ [];
-            subtype = 7;
-            port = 0x31 ∷ [];
+            chassis = c;
+            port = id 7 (0x31 ∷ []);
             seconds = 120;
             words = [];
-            category = c;
+            category = k;
             manufacturer = [];
             model = [];
             number = 0x37 ∷ [];
@@ -69,12 +70,24 @@ valid n h c =
           };
     }
 
+-- the same with the chassis of frame A
+abbrev valid : ℕ → Bool → List ℕ → ReaderAnswer
+valid = from (id 4 (0x02 ∷ 0x00 ∷ 0x00 ∷ 0x00 ∷ 0x00 ∷ 0x01 ∷ []))
+
+-- frame A with another TLV 1
+abbrev behind : List ℕ → List ℕ
+behind c = header ++ c ++ port ++ seconds ++ category ++ number ++ end
+
 pub record Case : Type 0 where
   pub frame : List ℕ
   pub answer : ReaderAnswer
 
 abbrev case : List ℕ → ReaderAnswer → Case
 case f a = record { frame = f; answer = a }
+
+-- an address of eight octets
+abbrev eight : List ℕ
+eight = 0x02 ∷ 0x00 ∷ 0x00 ∷ 0xFF ∷ 0xFE ∷ 0x00 ∷ 0x00 ∷ 0x01 ∷ []
 
 abbrev pub bench : List Case
 bench =
@@ -84,16 +97,19 @@ bench =
     ∷ case (take 14 frame-a) (refusedAnswer 5)
     ∷ case (take 13 frame-a) (refusedAnswer 3)
     ∷ case (take 12 frame-a ++ 0x08 ∷ 0x00 ∷ drop 14 frame-a) (refusedAnswer 3)
-    ∷ case (header ++ (0x02 ∷ 0x06 ∷ 0x04 ∷ 0x02 ∷ 0x00 ∷ 0x00 ∷ 0x00 ∷ 0x00 ∷ []) ++ port ++ seconds ++ category ++ number ++ end) (refusedAnswer 4)
+    ∷ case (behind (0x02 ∷ 0x06 ∷ 0x04 ∷ 0x02 ∷ 0x00 ∷ 0x00 ∷ 0x00 ∷ 0x00 ∷ [])) (refusedAnswer 4)
     ∷ case (header ++ chassis ++ port ++ (0x06 ∷ 0x03 ∷ 0x00 ∷ 0x78 ∷ 0x00 ∷ []) ++ category ++ number ++ end) (refusedAnswer 4)
     ∷ case (header ++ first ++ category ++ number ++ (0x06 ∷ 0x02 ∷ 0x00 ∷ 0x78 ∷ []) ++ end) (refusedAnswer 6)
     ∷ case (header ++ first ++ category ++ number ++ (0xFE ∷ 0x03 ∷ 0xE0 ∷ 0x27 ∷ 0x1A ∷ []) ++ end) (refusedAnswer 6)
     ∷ case (header ++ first ++ (0xFE ∷ 0x05 ∷ 0xE0 ∷ 0x27 ∷ 0x1A ∷ 0x01 ∷ 0x01 ∷ []) ++ number ++ end) (valid 35 false [])
     ∷ case (header ++ first ++ (0xFE ∷ 0x07 ∷ 0xE0 ∷ 0x27 ∷ 0x1A ∷ 0x01 ∷ 0x01 ∷ 0x02 ∷ 0x41 ∷ []) ++ number ++ end) (valid 37 false [])
+    ∷ case (behind (0x02 ∷ 0x09 ∷ 0x04 ∷ eight)) (from (id 4 eight) 39 true (0x41 ∷ []))
+    ∷ case (behind (0x02 ∷ 0x03 ∷ 0x07 ∷ 0x41 ∷ 0x46 ∷ [])) (from (id 7 (0x41 ∷ 0x46 ∷ [])) 33 true (0x41 ∷ []))
+    ∷ case (behind (0x02 ∷ 0x43 ∷ 0x07 ∷ replicate 66 0x30)) (refusedAnswer 4)
     ∷ []
 
 pub bench-right : map (λ (c : Case). onFrame (refusedAnswer 3) answerOf (c .frame)) bench ≡ map (λ (c : Case). c .answer) bench
-unfolding sixAt sameOctets isGroup charOk textOk wantedOf deviceOf linkOk listOk descriptionOf linkOf listOf isTtc ttcOf fieldOf headOf stepOf walk behindPort behindChassis extentOf contents wellFormed htipOf answerOf frameOk onFrame
+unfolding sixAt sameOctets isGroup charOk textOk wantedOf deviceOf linkOk listOk descriptionOf linkOf listOf isTtc ttcOf fieldOf headOf stepOf walk allBelow chassisOk portOk portPlace secondsPlace behindPort behindChassis extentOf contents wellFormed htipOf answerOf frameOk onFrame
 bench-right = refl
 
 -- Frame A from other sources (F4)

@@ -5,6 +5,7 @@ mod frame;
 pub use frame::outline_frame;
 pub use frame::read_frame;
 pub use lldpdu::Extent;
+pub use lldpdu::IdPart;
 pub use lldpdu::Outline;
 pub use lldpdu::outline_lldpdu;
 pub use naming::Naming;

@@ -17,7 +17,6 @@ trimmed r =
     record {
       extent = r .extent;
       chassis = r .description .chassis;
-      subtype = r .description .subtype;
       port = r .description .port;
       seconds = r .description .seconds;
     }

@@ -2,7 +2,7 @@
 -- `reading-means` is the theorem; the code cites `ready`, `assembled` and `reads-exactly`.
 use Prim.{Unit, tt}
 use Prim.Native.Nat.{ℕ, zero, suc, _+_, _*_, _<_, _≤_}
-use mathlib.Core.Path.{_≡_, refl, sym, ap, _∙_}
+use mathlib.Core.Path.{_≡_, refl, sym, ap, ap₂, _∙_}
 use mathlib.Core.List.{List, [], _∷_}
 use mathlib.Core.Bool.{Bool, true, false, true≢false}
 use mathlib.Core.Option.{none, some}
@@ -20,17 +20,19 @@ use Rattle.fields.specs.declared.Field.the-variants.{Skipped, Malformed, Says}
 use Rattle.links.proofs.LinkLaws.{link-has}
 use Rattle.fields.proofs.FieldLaws.{Fits, field-fits}
 use Rattle.walk.specs.Walk.{Tlv, walk}
-use Rattle.lldpdu.specs.Extent.{portLength, restOf, extentOf}
+use Rattle.lldpdu.specs.Extent.{restPlace, restOf, extentOf}
+use Rattle.lldpdu.specs.Outline.{outlineAt, outlineOf}
 use Rattle.text.specs.Part.{textOf}
 use Rattle.found.specs.Found.{nothing, markOf, gather, htipIn}
-use Rattle.reading.specs.Reading.{Ready, linkAt, listAt, linkParts, foundIn, descriptionAt, readingAt, readingOf}
+use Rattle.reading.specs.Reading.{linkAt, listAt, linkParts, foundIn, descriptionAt, refusedReading, readingAt, readingOf}
 use Rattle.found.specs.Contents.{onField, contents, LinkInfo, linkIn, tlvsIn}
 use Rattle.reading.specs.Meaning.{firstLink, firstList, saidIn, answerAt, answerOf, linkMeant, listMeant, saidBy, meant, Reads}
-use Rattle.lldpdu.proofs.ExtentLaws.{good, good-port}
+use Rattle.lldpdu.proofs.ExtentLaws.{outline-extent}
 use Rattle.found.proofs.MarkLaws.{AllIn, walk-in, textAt, upTo2, Means, topic-means}
 use Rattle.found.proofs.VerdictLaws.{htip-means}
 use Rattle.walk.specs.declared.Extent.{Extent}
 use Rattle.walk.specs.declared.Extent.the-variants.{Refused, Octets}
+use Rattle.lldpdu.specs.declared.outline.Outline.{Outline}
 use Rattle.found.specs.declared.Mark.{Mark}
 use Rattle.found.specs.declared.Found.{Found}
 use Rattle.reading.specs.declared.Description.{Description}
@@ -138,7 +140,7 @@ list-means s m (c ∷ cs) i = rw (met i) (ap some (i .text))
 -- The whole answer
 
 pub rest-in : (s : List ℕ) → AllIn s (restOf s .tlvs)
-rest-in s = walk-in s (drop (15 + portLength s) s) 0 (15 + portLength s) refl
+rest-in s = walk-in s (drop (restPlace s) s) 0 (restPlace s) refl
 
 pub marks-inside : (s : List ℕ) (topic : ℕ) → topic < topics → markOf topic (foundIn s) .start + markOf topic (foundIn s) .len ≤ length s
 marks-inside s topic h = topic-means s topic (restOf s .tlvs) h (rest-in s) .inside
@@ -147,8 +149,8 @@ pub reading-link-fits : (s : List ℕ) → LinkFits (length s) (linkAt s (markOf
 reading-link-fits s =
     link-fits s (markOf link (foundIn s)) (contents link (tlvsIn s)) (contents-end (tlvsIn s)) (topic-means s link (restOf s .tlvs) (omega arith) (rest-in s))
 
-said-means : (s : List ℕ) → saidBy s (descriptionAt s (portLength s) (foundIn s)) ≡ saidIn s (tlvsIn s)
-said-means s =
+said-means : (s : List ℕ) (e : ℕ) → saidBy s (descriptionAt s (outlineAt (Octets e) s) (foundIn s)) ≡ saidIn s (tlvsIn s)
+said-means s e =
     let m : (t : ℕ) → t < topics → Means s (markOf t (foundIn s)) (contents t (tlvsIn s)) = λ t h. topic-means s t (restOf s .tlvs) h (rest-in s) in
     rw (
       m portDescription (omega arith) .text,
@@ -166,26 +168,41 @@ reading-means s = go (extentOf s)
   where
     go : (x : Extent) → meant s (readingAt x s) ≡ answerAt x s
     go (Refused n) = refl
-    go (Octets e) = rw (htip-means s (restOf s .tlvs) (rest-in s), said-means s)
+    go (Octets e) = rw (htip-means s (restOf s .tlvs) (rest-in s), said-means s e)
 
 -- the one answer means what it should
 pub reads-exactly : (s : List ℕ) {r : Reading} → r ≡ readingOf s → Reads s r
 reads-exactly s e = record { exact = e; means = ap (meant s) e ∙ reading-means s }
 
--- what the code has in hand of a valid LLDPDU: its length, L of TLV 2, and what was gathered
-module _ (s : List ℕ) {e p : ℕ} {f : Found} (v : extentOf s ≡ Octets e) (q : p ≡ portLength s) (g : f ≡ gather nothing (walk (drop (15 + p) s) 0 (15 + p) .tlvs)) where
-  gathered-is : f ≡ foundIn s
-  gathered-is = g ∙ ap (λ (n : ℕ). gather nothing (walk (drop (15 + n) s) 0 (15 + n) .tlvs)) q
+-- What the code has in hand of an LLDPDU: its outline, and what was gathered behind the first three TLVs
 
-  pub ready : Ready s p f
-  ready =
-      let port = good-port (good s e v) in
-      let inside = marks-inside s link (omega arith) in
-      rw gathered-is (record { least = omega (arith, q); most = omega (arith, q); linked = omega arith })
+module _ (s : List ℕ) {o : Outline} (t : o ≡ outlineOf s) where
+  extent-is : {x : Extent} → o .extent ≡ x → extentOf s ≡ x
+  extent-is v = sym (ap (λ (y : Outline). y .extent) t ∙ outline-extent s) ∙ v
 
-  pub assembled : {h : Bool} {d : Description} → h ≡ htipIn f → d ≡ descriptionAt s p f → record { extent = Octets e; htip = h; description = d } ≡ readingOf s
+  pub refuses : {n : ℕ} → o .extent ≡ Refused n → refusedReading n ≡ readingOf s
   unfolding readingOf
-  assembled {h} {d} x y = rw (v, x, y, gathered-is, q)
+  refuses v = ap (λ (x : Extent). readingAt x s) (sym (extent-is v))
+
+  outlined : {e : ℕ} → o .extent ≡ Octets e → o ≡ outlineAt (Octets e) s
+  unfolding outlineOf
+  outlined v = t ∙ ap (λ (x : Extent). outlineAt x s) (extent-is v)
+
+module _ (s : List ℕ) {p : ℕ} {f : Found} (q : p ≡ restPlace s) (g : f ≡ gather nothing (walk (drop p s) 0 p .tlvs)) where
+  gathered-is : f ≡ foundIn s
+  gathered-is = g ∙ ap (λ (n : ℕ). gather nothing (walk (drop n s) 0 n .tlvs)) q
+
+  pub ready : markOf link f .start ≤ length s
+  ready =
+      let inside = marks-inside s link (omega arith) in
+      rw gathered-is (omega arith)
+
+  pub assembled : {o : Outline} {e : ℕ} → o ≡ outlineOf s → o .extent ≡ Octets e → {h : Bool} {d : Description} → h ≡ htipIn f → d ≡ descriptionAt s o f
+      → record { extent = Octets e; htip = h; description = d } ≡ readingOf s
+  unfolding readingOf
+  assembled {e = e} t v x y =
+      rw (extent-is s t v, x, gathered-is)
+      (ap (λ (b : Description). record { extent = Octets e; htip = htipIn (foundIn s); description = b }) (y ∙ ap₂ (descriptionAt s) (outlined s t v) gathered-is))
 
 -- Link information that the code has taken apart
 

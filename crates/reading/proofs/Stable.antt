@@ -14,7 +14,7 @@ use Rattle.found.specs.Contents.{tlvsIn}
 use Rattle.reading.specs.Meaning.{answerOf}
 use Rattle.found.proofs.MarkLaws.{AllIn, textAt, topic-means}
 use Rattle.reading.proofs.MeaningLaws.{rest-in}
-use Rattle.lldpdu.proofs.Stable.{front, extent-stable, chassis-same, subtype-same, port-same, seconds-same}
+use Rattle.lldpdu.proofs.Stable.{front, extent-stable, seconds-same}
 use Rattle.walk.specs.declared.Extent.the-variants.{Octets}
 
 module _ (s t : List ℕ) (e : ℕ) (v : extentOf s ≡ Octets e) where
@@ -29,7 +29,7 @@ module _ (s t : List ℕ) (e : ℕ) (v : extentOf s ≡ Octets e) where
 
   pub answer-stable : answerOf u ≡ answerOf s
   unfolding answerOf
-  answer-stable = rw (extent-stable s t e v, v, tlvs-same, chassis-same s t e v, subtype-same s t e v, port-same s t e v, seconds-same s t e v)
+  answer-stable = rw (extent-stable s t e v, v, tlvs-same, front s t e v .chassis, front s t e v .place, front s t e v .port, seconds-same s t e v)
 
   -- the content of the first link information is the same, so what is read from it is
   link-kept : linkAt u (markOf link (foundIn s)) ≡ linkAt s (markOf link (foundIn s))
@@ -43,4 +43,4 @@ module _ (s t : List ℕ) (e : ℕ) (v : extentOf s ≡ Octets e) where
 
   pub reading-stable : readingOf u ≡ readingOf s
   unfolding readingOf
-  reading-stable = rw (extent-stable s t e v, v, found-same, chassis-same s t e v, subtype-same s t e v, seconds-same s t e v, front s t e v .port, link-kept)
+  reading-stable = rw (extent-stable s t e v, v, found-same, front s t e v .chassis-at, front s t e v .place, front s t e v .port-at, seconds-same s t e v, link-kept)

@@ -1,18 +1,17 @@
 -- What an LLDPDU says, by the rules alone and in lists of octets: this is what must be believed of the reader.
 -- No place, no mark and no code type stands in it; what the code answers means this, and that is part of its contract.
-use Prim.Native.Nat.{ℕ, _-_}
+use Prim.Native.Nat.{ℕ}
 use mathlib.Core.Path.{_≡_}
 use mathlib.Core.List.{List, [], _∷_}
 use mathlib.Core.Bool.{Bool, false}
 use mathlib.Core.Option.{Option, none, some}
-use lib.ListN.{take, drop, getD}
-use Rattle.octets.specs.Address.{sixAt}
 use Rattle.links.specs.Link.{typeCount, numberCount}
 use Rattle.found.specs.Contents.{contents, htipOf, first, LinkInfo, linkIn, tlvsIn}
 use Rattle.fields.specs.Field.{portDescription, category, manufacturer, modelName, modelNumber, link, addressList}
 use Rattle.walk.specs.Walk.{Tlv}
-use Rattle.lldpdu.specs.Extent.{refusalOfExtent, octetsIn, portLength, extentOf}
-use Rattle.lldpdu.specs.Outline.{noAddress, secondsIn}
+use Rattle.ids.specs.Id.{Id, id, idMeant}
+use Rattle.lldpdu.specs.Extent.{refusalOfExtent, octetsIn, portPlace, idIn, extentOf}
+use Rattle.lldpdu.specs.Outline.{secondsIn}
 use Rattle.text.specs.Part.{textOf}
 use Rattle.reading.specs.Reading.{readingOf}
 use Rattle.walk.specs.declared.Extent.{Extent}
@@ -27,9 +26,8 @@ use Rattle.reading.specs.declared.Reading.{Reading}
 -- What is said
 
 pub record Said : Type 0 where
-  pub chassis : List ℕ
-  pub subtype : ℕ
-  pub port : List ℕ
+  pub chassis : Id
+  pub port : Id
   pub seconds : ℕ
   pub words : List ℕ
   pub category : List ℕ
@@ -52,9 +50,8 @@ firstList (x ∷ l) = some x
 abbrev pub saidIn : List ℕ → List Tlv → Said
 saidIn s ts =
     record {
-      chassis = sixAt s 3;
-      subtype = getD s 11 0;
-      port = take (portLength s - 1) (drop 12 s);
+      chassis = idIn s 0;
+      port = idIn s (portPlace s);
       seconds = secondsIn s;
       words = first (contents portDescription ts);
       category = first (contents category ts);
@@ -81,9 +78,8 @@ refusedAnswer n =
       htip = false;
       said =
           record {
-            chassis = noAddress;
-            subtype = 0;
-            port = [];
+            chassis = id 0 [];
+            port = id 0 [];
             seconds = 0;
             words = [];
             category = [];
@@ -115,9 +111,8 @@ listMeant s (list-is.Listed a) = some (textOf s a)
 abbrev pub saidBy : List ℕ → Description → Said
 saidBy s d =
     record {
-      chassis = d .chassis;
-      subtype = d .subtype;
-      port = textOf s (d .port);
+      chassis = idMeant s (d .chassis);
+      port = idMeant s (d .port);
       seconds = d .seconds;
       words = textOf s (d .words);
       category = textOf s (d .category);

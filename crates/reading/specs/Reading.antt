@@ -1,22 +1,20 @@
 -- The reading of an LLDPDU as the code answers it: numbers, and parts of the LLDPDU.
 -- What it means, in lists of octets, is specs/Meaning.antt.
-use Prim.Native.Nat.{ℕ, _+_, _-_, _*_, _≤_}
+use Prim.Native.Nat.{ℕ, _+_, _*_}
 use mathlib.Core.List.{List}
 use mathlib.Core.Bool.{true, false}
-use lib.ListN.{length, getD}
 use lib.Dec.{eqb}
 use Rattle.tally.specs.Tests.{pick}
-use Rattle.octets.specs.Numbers.{pairOf}
-use Rattle.octets.specs.Address.{sixAt}
 use Rattle.links.specs.Link.{typeCount, numberCount, addressCount}
 use Rattle.fields.specs.Field.{portDescription, category, manufacturer, modelName, modelNumber, link, addressList}
-use Rattle.lldpdu.specs.Extent.{portLength, restOf, extentOf}
-use Rattle.lldpdu.specs.Outline.{noAddress}
+use Rattle.lldpdu.specs.Extent.{restOf, extentOf}
+use Rattle.lldpdu.specs.Outline.{noId, outlineAt}
 use Rattle.text.specs.Part.{part, textOf}
 use Rattle.found.specs.Found.{markOf, nothing, gather, htipIn}
 use Rattle.walk.specs.declared.Extent.{Extent}
 use Rattle.walk.specs.declared.Extent.the-variants.{Refused, Octets}
 use Rattle.text.specs.declared.Part.{Part}
+use Rattle.lldpdu.specs.declared.outline.Outline.{Outline}
 use Rattle.found.specs.declared.Mark.{Mark}
 use Rattle.found.specs.declared.Found.{Found}
 use Rattle.reading.specs.declared.Link.{Link}
@@ -50,14 +48,13 @@ abbrev pub linkParts : Link → LinkParts
 linkParts link-is.Absent = record { there = false; interface = part 0 0; port = part 0 0; addresses = part 0 0 }
 linkParts (link-is.Table i p a) = record { there = true; interface = i; port = p; addresses = a }
 
--- with p octets in TLV 2
-abbrev pub descriptionAt : List ℕ → ℕ → Found → Description
-descriptionAt s p f =
+-- chassis, port ID and seconds are those of the outline o
+abbrev pub descriptionAt : List ℕ → Outline → Found → Description
+descriptionAt s o f =
     record {
-      chassis = sixAt s 3;
-      subtype = getD s 11 0;
-      port = part 12 (p - 1);
-      seconds = pairOf (getD s (13 + p) 0) (getD s (14 + p) 0);
+      chassis = o .chassis;
+      port = o .port;
+      seconds = o .seconds;
       words = partAt (markOf portDescription f);
       category = partAt (markOf category f);
       manufacturer = partAt (markOf manufacturer f);
@@ -66,12 +63,6 @@ descriptionAt s p f =
       link = linkAt s (markOf link f);
       list = listAt (markOf addressList f);
     }
-
--- what the code needs before it may do the sums of a description
-pub record Ready (s : List ℕ) (p : ℕ) (f : Found) : Type 0 where
-  pub least : 1 ≤ p
-  pub most : p ≤ 256
-  pub linked : markOf link f .start ≤ length s
 
 abbrev pub foundIn : List ℕ → Found
 foundIn s = gather nothing (restOf s .tlvs)
@@ -83,9 +74,8 @@ refusedReading n =
       htip = false;
       description =
           record {
-            chassis = noAddress;
-            subtype = 0;
-            port = part 0 0;
+            chassis = noId;
+            port = noId;
             seconds = 0;
             words = part 0 0;
             category = part 0 0;
@@ -100,7 +90,7 @@ refusedReading n =
 -- a refusal fixes the whole answer (R12)
 abbrev pub readingAt : Extent → List ℕ → Reading
 readingAt (Refused n) s = refusedReading n
-readingAt (Octets e) s = record { extent = Octets e; htip = htipIn (foundIn s); description = descriptionAt s (portLength s) (foundIn s) }
+readingAt (Octets e) s = record { extent = Octets e; htip = htipIn (foundIn s); description = descriptionAt s (outlineAt (Octets e) s) (foundIn s) }
 
 unfoldable pub readingOf : List ℕ → Reading
 readingOf s = readingAt (extentOf s) s

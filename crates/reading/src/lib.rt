@@ -3,18 +3,20 @@
 ghost use mathlib.Core.Path.{_≡_};
 ghost use Prim.Native.Nat.{_^_, _<_, _≤_};
 ghost use lib.ListN.{length};
-ghost use Rattle.reading.specs.Reading.{partAt, tableIn, linkAt, listAt, linkParts, Ready, descriptionAt, refusedReading};
+ghost use Rattle.fields.specs.Field.{link};
+ghost use Rattle.found.specs.Found.{markOf};
+ghost use Rattle.reading.specs.Reading.{partAt, tableIn, linkAt, listAt, linkParts, descriptionAt, refusedReading};
 ghost use Rattle.reading.specs.Meaning.{Reads};
 use found::Found;
 use found::Mark;
 use found::gathered;
 use found::is_htip;
 use lldpdu::Extent;
-use lldpdu::extent_of;
-use lldpdu::port_length;
+use lldpdu::IdPart;
+use lldpdu::Outline;
+use lldpdu::outline_lldpdu;
+use lldpdu::rest_place;
 use octets::octet;
-use octets::pair;
-use octets::six;
 use text::Part;
 use text::text_of;
 
@@ -36,9 +38,8 @@ pub enum AddressList {
 
 // What an announcement says, for the reader and for the writer. An absent string is an empty part (A2).
 pub struct Description {
-    pub chassis: [u8; 6],
-    pub subtype: u8,
-    pub port: Part,
+    pub chassis: IdPart,
+    pub port: IdPart,
     pub seconds: u16,
     // the port description
     pub words: Part,
@@ -146,18 +147,17 @@ fn list_at(m: Mark) -> AddressList
     AddressList::Listed(part_at(m))
 }
 
-fn description_at(s: &[u8], p: usize, found: Found) -> Description
-    requires { ⌜ Ready (now s) p found ⌝ }
-    ensures { λ r. ⌜ r ≡ descriptionAt (now (s .entry)) p found ⌝ }
+// Chassis, port ID and seconds are those of the outline; the rest is what was found behind them.
+fn description_at(s: &[u8], o: Outline, found: Found) -> Description
+    requires { ⌜ markOf link found .start ≤ length (now s) ⌝ }
+    ensures { λ r. ⌜ r ≡ descriptionAt (now (s .entry)) o found ⌝ }
 {
+    let chassis = o.chassis;
+    let port = o.port;
     Description {
-        chassis: six(s, 3),
-        subtype: octet(s, 11),
-        port: Part {
-            start: 12,
-            len: p - 1,
-        },
-        seconds: pair(octet(s, 13 + p), octet(s, 14 + p)),
+        chassis: chassis,
+        port: port,
+        seconds: o.seconds,
         words: part_at(found.marks[fields::PORT_DESCRIPTION]),
         category: part_at(found.marks[fields::CATEGORY]),
         manufacturer: part_at(found.marks[fields::MANUFACTURER]),
@@ -172,13 +172,16 @@ pub fn refused_reading(n: u8) -> Reading
     ensures { λ r. ⌜ r ≡ refusedReading n ⌝ }
 {
     let none = Part { start: 0, len: 0 };
+    let nobody = IdPart {
+        subtype: 0,
+        octets: none,
+    };
     Reading {
         extent: Extent::Refused(n),
         htip: false,
         description: Description {
-            chassis: [0; 6],
-            subtype: 0,
-            port: none,
+            chassis: nobody,
+            port: nobody,
             seconds: 0,
             words: none,
             category: none,
@@ -194,15 +197,16 @@ pub fn refused_reading(n: u8) -> Reading
 pub fn read_lldpdu(s: &[u8]) -> Reading
     ensures { λ r. ⌜ Reads (now (s .entry)) r ⌝ }
 {
-    match extent_of(s) {
+    let o = outline_lldpdu(s);
+    let extent = o.extent;
+    match extent {
         Extent::Refused(n) => refused_reading(n),
         Extent::Octets(length) => {
-            let p = port_length(s);
-            let found = gathered(s, 15 + p);
+            let found = gathered(s, rest_place(s));
             Reading {
                 extent: Extent::Octets(length),
                 htip: is_htip(found),
-                description: description_at(s, p, found),
+                description: description_at(s, o, found),
             }
         }
     }

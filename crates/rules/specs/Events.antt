@@ -2,13 +2,13 @@
 -- Of a frame only what the reader says of it counts.
 use Prim.Native.Nat.{ℕ}
 use mathlib.Core.List.{List}
+use Rattle.ids.specs.Id.{Id}
 use Rattle.rules.specs.Identity.{Ident}
 
 -- what a valid frame says, as far as a table asks: identity but for the port, seconds to live, and the octets of its LLDPDU
 pub record Announcement : Type 0 where
-  pub chassis : List ℕ
-  pub subtype : ℕ
-  pub portId : List ℕ
+  pub chassis : Id
+  pub portId : Id
   pub seconds : ℕ
   pub octets : List ℕ
 
@@ -28,4 +28,4 @@ History = List Event
 
 -- the identity of what is heard on a port
 abbrev pub whose : ℕ → Announcement → Ident
-whose p a = record { port = p; chassis = a .chassis; subtype = a .subtype; portId = a .portId }
+whose p a = record { port = p; chassis = a .chassis; portId = a .portId }

@@ -4,10 +4,8 @@ use denote.Ref.{now}
 use Rattle.output.proofs.Sole.{SolePut, same-put}
 use Rattle.tlvs.proofs.put_head.Kinds as head-kinds
 use Rattle.tlvs.proofs.put_head.Reads as head
-use Rattle.tlvs.proofs.put_chassis.Kinds as chassis-kinds
-use Rattle.tlvs.proofs.put_chassis.Reads as chassis
-use Rattle.tlvs.proofs.put_port.Kinds as port-kinds
-use Rattle.tlvs.proofs.put_port.Reads as port
+use Rattle.tlvs.proofs.put_id.Kinds as id-kinds
+use Rattle.tlvs.proofs.put_id.Reads as id
 use Rattle.tlvs.proofs.put_seconds.Kinds as seconds-kinds
 use Rattle.tlvs.proofs.put_seconds.Reads as seconds
 use Rattle.tlvs.proofs.put_words.Kinds as words-kinds
@@ -22,11 +20,8 @@ use Rattle.tlvs.proofs.put_listed.Reads as listed
 pub put-head-sole : SolePut 1 head-kinds.ps head-kinds.r head.Post (λ κs x. now (x .0))
 put-head-sole κs a r q x y = same-put
 
-pub put-chassis-sole : SolePut 1 chassis-kinds.ps chassis-kinds.r chassis.Post (λ κs x. now (x .0))
-put-chassis-sole κs a r q x y = same-put
-
-pub put-port-sole : SolePut 2 port-kinds.ps port-kinds.r port.Post (λ κs x. now (x .0))
-put-port-sole κs a r q x y = same-put
+pub put-id-sole : SolePut 2 id-kinds.ps id-kinds.r id.Post (λ κs x. now (x .0))
+put-id-sole κs a r q x y = same-put
 
 pub put-seconds-sole : SolePut 1 seconds-kinds.ps seconds-kinds.r seconds.Post (λ κs x. now (x .0))
 put-seconds-sole κs a r q x y = same-put

@@ -11,9 +11,10 @@ use lib.ListN.{length, getD, length-append}
 use Rattle.tally.specs.Tests.{pick}
 use Rattle.tally.proofs.TestsLaws.{all-fails}
 use Rattle.octets.specs.Header.{high, low}
+use Rattle.ids.specs.Id.{id}
 use Rattle.walk.specs.Walk.{Tlv}
 use Rattle.found.specs.Contents.{LinkInfo}
-use Rattle.tlvs.specs.Tlvs.{written, octetsOf, chassisTlv, portTlv, deviceTlv, linkContent, linkTlv, listTlv, unlessEmpty, ifLinked, ifListed, countable, linkCounts, countableLink, countableList}
+use Rattle.tlvs.specs.Tlvs.{written, octetsOf, idTlv, deviceTlv, linkContent, linkTlv, listTlv, unlessEmpty, ifLinked, ifListed, countable, linkCounts, countableLink, countableList}
 
 -- One TLV, and none
 
@@ -76,13 +77,10 @@ module _ (l : LinkInfo) where
       let e : 7 + n + m + k ≡ length (linkTlv l .body) = omega (arith, link-length) in
       ap (λ (z : ℕ). high 127 z ∷ low z ∷ 0xE0 ∷ 0x27 ∷ 0x1A ∷ 2 ∷ linkContent l) e ∙ sym (one-octets (linkTlv l))
 
-pub chassis-written : (chassis : List ℕ) → length chassis ≡ 6 → (high 1 7 ∷ low 7 ∷ 4 ∷ chassis) ≡ written (chassisTlv chassis)
-chassis-written chassis six = ap (λ (k : ℕ). high 1 (suc k) ∷ low (suc k) ∷ 4 ∷ chassis) (sym six)
-
-pub port-written : (subtype : ℕ) {x y : List ℕ} → x ≡ y → (high 2 (1 + length x) ∷ low (1 + length x) ∷ subtype ∷ x) ≡ written (portTlv subtype y)
-port-written subtype {x} q =
+pub id-written : (kind subtype : ℕ) {x y : List ℕ} → x ≡ y → (high kind (1 + length x) ∷ low (1 + length x) ∷ subtype ∷ x) ≡ written (idTlv kind (id subtype y))
+id-written kind subtype {x} q =
     let m : 1 + length x ≡ suc (length x) = omega arith in
-    ap (λ (k : ℕ). high 2 k ∷ low k ∷ subtype ∷ x) m ∙ ap (λ (l : List ℕ). written (portTlv subtype l)) q
+    ap (λ (k : ℕ). high kind k ∷ low k ∷ subtype ∷ x) m ∙ ap (λ (l : List ℕ). written (idTlv kind (id subtype l))) q
 
 -- What an octet can count, of a string x that the code has in hand for y
 

@@ -8,6 +8,7 @@ use lib.ListN.{length}
 use lib.Dec.{leb}
 use Rattle.tally.specs.Tests.{pick, all}
 use Rattle.octets.specs.Header.{high, low}
+use Rattle.ids.specs.Id.{Id}
 use Rattle.walk.specs.Walk.{Tlv}
 use Rattle.found.specs.Contents.{LinkInfo}
 
@@ -24,11 +25,15 @@ octetsOf (t ∷ ts) = written t ++ octetsOf ts
 
 -- The first three (L3 to L5) and the last (L7)
 
-abbrev pub chassisTlv : List ℕ → Tlv
-chassisTlv chassis = tlv 1 (4 ∷ chassis)
+-- an ID: its subtype, then its octets
+abbrev pub idTlv : ℕ → Id → Tlv
+idTlv kind d = tlv kind (d .subtype ∷ d .octets)
 
-abbrev pub portTlv : ℕ → List ℕ → Tlv
-portTlv subtype port = tlv 2 (subtype ∷ port)
+abbrev pub chassisTlv : Id → Tlv
+chassisTlv chassis = idTlv 1 chassis
+
+abbrev pub portTlv : Id → Tlv
+portTlv port = idTlv 2 port
 
 abbrev pub secondsTlv : ℕ → Tlv
 secondsTlv seconds = tlv 3 (seconds / 256 ∷ seconds % 256 ∷ [])

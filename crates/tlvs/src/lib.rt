@@ -6,7 +6,9 @@ ghost use mathlib.Core.Option.{some};
 ghost use Rattle.output.specs.Output.{outputAt, puts};
 ghost use Rattle.octets.specs.Header.{high, low};
 ghost use Rattle.text.specs.Part.{textOf};
-ghost use Rattle.tlvs.specs.Tlvs.{written, octetsOf, chassisTlv, portTlv, secondsTlv, wordsTlv, deviceTlv, linkInfo, unlessEmpty, ifLinked, ifListed, countable, countableLink, countableList};
+ghost use Rattle.ids.specs.Id.{idMeant};
+ghost use Rattle.tlvs.specs.Tlvs.{written, octetsOf, idTlv, secondsTlv, wordsTlv, deviceTlv, linkInfo, unlessEmpty, ifLinked, ifListed, countable, countableLink, countableList};
+use ids::IdPart;
 use octets::high_of;
 use octets::low_of;
 use output::put_all;
@@ -44,21 +46,13 @@ fn put_ttc(out: &mut [u8], at: usize, subtype: u8, len: usize) -> usize
     put_octet(out, d, subtype)
 }
 
-// TLV 1 (L3).
-pub fn put_chassis(out: &mut [u8], chassis: [u8; 6]) -> usize
-    ensures { λ r. ⌜ outputAt (now (out .exit)) r ≡ puts (written (chassisTlv chassis)) (outputAt (now (out .entry)) 0) ⌝ }
+// A TLV that is an ID: TLV 1 of a chassis, TLV 2 of a port (L3, L4).
+pub fn put_id(out: &mut [u8], at: usize, kind: u8, text: &[u8], id: IdPart) -> usize
+    ensures { λ r. ⌜ outputAt (now (out .exit)) r ≡ puts (written (idTlv kind (idMeant (now (text .entry)) id))) (outputAt (now (out .entry)) at) ⌝ }
 {
-    let a = put_head(out, 0, 1, 7);
-    put_counted(out, a, 4, &chassis)
-}
-
-// TLV 2 (L4).
-pub fn put_port(out: &mut [u8], at: usize, subtype: u8, text: &[u8], p: Part) -> usize
-    ensures { λ r. ⌜ outputAt (now (out .exit)) r ≡ puts (written (portTlv subtype (textOf (now (text .entry)) p))) (outputAt (now (out .entry)) at) ⌝ }
-{
-    let port = text_of(text, p);
-    let a = put_head(out, at, 2, 1 + port.len());
-    put_counted(out, a, subtype, port)
+    let octets = text_of(text, id.octets);
+    let a = put_head(out, at, kind, 1 + octets.len());
+    put_counted(out, a, id.subtype, octets)
 }
 
 // TLV 3 (L5).

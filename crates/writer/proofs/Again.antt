@@ -14,9 +14,8 @@ use lib.Seq.{take-at, take-all, drop-at}
 use lib.Dec.{leb, eqb}
 use Rattle.tally.specs.Tests.{pick, both}
 use Rattle.fields.specs.Field.{portDescription, category, manufacturer, modelName, modelNumber, link, addressList, topics}
-use Rattle.lldpdu.specs.Extent.{portLength, extentOf}
-use Rattle.text.specs.Part.{part}
-use Rattle.lldpdu.proofs.ExtentLaws.{good, good-port, reads}
+use Rattle.lldpdu.specs.Extent.{portPlace, idAt, extentOf}
+use Rattle.lldpdu.proofs.ExtentLaws.{good, reads}
 use Rattle.lldpdu.proofs.Stable.{sized}
 use Rattle.walk.specs.declared.Extent.the-variants as extent-is
 use Rattle.text.specs.declared.Part.{Part}
@@ -118,7 +117,8 @@ reading-inside s e v =
     λ t h. part-fits (length s) (partAt (markOf t (foundIn s))) (marks-inside s t h) in
     rw (
       v,
-      part-fits (length s) (part 12 (portLength s - 1)) (omega (arith, good-port (good s e v))),
+      part-fits (length s) (idAt s 0 .octets) (omega (arith, z)),
+      part-fits (length s) (idAt s (portPlace s) .octets) (omega (arith, z)),
       m portDescription (omega arith),
       m category (omega arith),
       m manufacturer (omega arith),

@@ -7,6 +7,7 @@ use mathlib.Core.Bool.{true, false}
 use mathlib.Core.Option.{Option, none, some}
 use lib.ListN.{replicate}
 use Rattle.strings.specs.Text.{textOk}
+use Rattle.ids.specs.Id.{id, chassisOk, portOk}
 use Rattle.found.specs.Contents.{LinkInfo}
 use Rattle.reading.specs.Meaning.{Said}
 use Rattle.tlvs.specs.Tlvs.{octetsOf, linkInfo}
@@ -17,9 +18,8 @@ use Rattle.description.specs.Rules.{linkSound, listSound, soundOf}
 abbrev said-a : Said
 said-a =
     record {
-      chassis = 0x02 ∷ 0x00 ∷ 0x00 ∷ 0x00 ∷ 0x00 ∷ 0x01 ∷ [];
-      subtype = 7;
-      port = 0x31 ∷ [];
+      chassis = id 4 (0x02 ∷ 0x00 ∷ 0x00 ∷ 0x00 ∷ 0x00 ∷ 0x01 ∷ []);
+      port = id 7 (0x31 ∷ []);
       seconds = 120;
       words = [];
       category = 0x41 ∷ [];
@@ -31,7 +31,7 @@ said-a =
     }
 
 pub bench-sound : soundOf said-a ≡ true
-unfolding soundOf textOk
+unfolding soundOf textOk chassisOk portOk
 bench-sound = refl
 
 pub bench-written : encode said-a

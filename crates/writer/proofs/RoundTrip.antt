@@ -1,34 +1,35 @@
 -- The round trip (W6), over the definitions: what is written of a description that keeps the rules is read back as that description.
 -- It holds behind every valid header and with any octets behind End.
-use Prim.Native.Nat.{ℕ, suc, _+_, _-_, _≤_}
+use Prim.Native.Nat.{ℕ, suc, _+_, _-_, _<_, _≤_}
 use mathlib.Core.Path.{_≡_, refl, sym, ap, ap₂, _∙_}
 use mathlib.Core.List.{List, [], _∷_, _++_, map, append-assoc, append-nil}
 use mathlib.Core.Bool.{Bool, true, false, not}
 use native.Mathlib.Omega.{arith}
-use borrow.Author.Tests.{eqb-true, leb-true, le-leb}
+use borrow.Author.Tests.{eqb-true, leb-true}
 use lib.ListN.{length, take, drop, getD, length-append}
 use lib.Seq.{drop-at, take-at, getD-drop, drop-drop}
 use lib.Dec.{leb, eqb}
 use Rattle.tally.specs.Tests.{pick, all}
 use Rattle.tally.proofs.TestsLaws.{Held, held}
-use Rattle.octets.specs.Header.{high, low}
 use Rattle.octets.specs.Numbers.{pairOf}
-use Rattle.octets.specs.Address.{sixAt}
 use Rattle.strings.specs.Wants.{wantedOf}
 use Rattle.fields.specs.Field.{portDescription, category, manufacturer, modelName, modelNumber, link, addressList}
 use Rattle.walk.specs.Walk.{headOf, Walked, walk}
-use Rattle.lldpdu.specs.Extent.{portOk, portLength, restOf}
+use Rattle.ids.specs.Id.{Id, chassisOk, portOk}
+use Rattle.ids.proofs.IdLaws.{chassis-short, port-short}
+use Rattle.lldpdu.specs.Extent.{lengthAt, portPlace, secondsPlace, restPlace, idIn, restOf}
 use Rattle.lldpdu.specs.Outline.{secondsIn}
-use Rattle.lldpdu.proofs.ExtentLaws.{Good, reads, port-length}
+use Rattle.lldpdu.proofs.ExtentLaws.{length-at, Good, reads}
 use Rattle.walk.specs.declared.Head.the-variants.{Whole}
 use Rattle.walk.specs.declared.Extent.the-variants.{Octets}
 use Rattle.found.specs.Contents.{contents, wellFormed, htipOf, tlvsIn}
 use Rattle.reading.specs.Meaning.{Said, saidIn, ReaderAnswer, refusedAnswer, answerOf}
 use Rattle.reader.specs.Frame.{frameOk, onFrame}
 use Rattle.reader.proofs.Agree.{frame-agrees}
-use Rattle.tlvs.specs.Tlvs.{written, octetsOf, chassisTlv, portTlv, secondsTlv, endTlv, wordsTlv, deviceTlv, unlessEmpty, ifLinked, ifListed}
+use Rattle.tlvs.specs.Tlvs.{written, octetsOf, idTlv, chassisTlv, portTlv, secondsTlv, endTlv, wordsTlv, deviceTlv, unlessEmpty, ifLinked, ifListed}
 use Rattle.announcement.specs.Encode.{fieldTlvs, tlvsOf, encode}
-use Rattle.description.specs.Rules.{portRules, stringRules, goodbyeRules, liveRules, rules, soundOf}
+use Rattle.description.specs.Rules.{stringRules, goodbyeRules, liveRules, rules, soundOf}
+use Rattle.description.proofs.RulesLaws.{kept}
 use Rattle.tlvs.proofs.TlvLaws.{octets-append}
 use Rattle.writer.proofs.ReadBack.{head-written, AllPassed, passed-append, laid, laid-are, walk-octets}
 use Rattle.writer.proofs.Topics.{contents-append, formed-append, Speaks, unlessNone, speaks-string, words-about, device-about, linkContents, speaks-link, first-link, listContents, speaks-list, first-list, first-string}
@@ -168,16 +169,32 @@ module _ (d : Said) (sound : soundOf d ≡ true) where
 
 -- Where the octets lie
 
-six-of : (x y z : ℕ) (l rest : List ℕ) → length l ≡ 6 → sixAt (x ∷ y ∷ z ∷ (l ++ rest)) 3 ≡ l
-unfolding sixAt
-six-of x y z [] rest h = absurd (omega arith)
-six-of x y z (a ∷ []) rest h = absurd (omega arith)
-six-of x y z (a ∷ b ∷ []) rest h = absurd (omega arith)
-six-of x y z (a ∷ b ∷ c ∷ []) rest h = absurd (omega arith)
-six-of x y z (a ∷ b ∷ c ∷ e ∷ []) rest h = absurd (omega arith)
-six-of x y z (a ∷ b ∷ c ∷ e ∷ f ∷ []) rest h = absurd (omega arith)
-six-of x y z (a ∷ b ∷ c ∷ e ∷ f ∷ g ∷ []) rest h = refl
-six-of x y z (a ∷ b ∷ c ∷ e ∷ f ∷ g ∷ i ∷ l) rest h = absurd (omega arith)
+-- an ID x that was written at a place of s, with `rest` behind it: it is found there again, and what is behind it is the rest
+module _ (s : List ℕ) (at kind : ℕ) (x : Id) (rest : List ℕ) (e : drop at s ≡ written (idTlv kind x) ++ rest) (small : kind < 128) (short : length (x .octets) ≤ 255) where
+  abbrev n : ℕ
+  n = length (x .octets)
+
+  id-head : headOf (drop at s) ≡ Whole kind (suc n)
+  id-head = ap headOf e ∙ head-written (idTlv kind x) rest (record { kind = small; body = omega arith })
+
+  id-length : lengthAt s at ≡ suc n
+  id-length = sym (length-at s at id-head)
+
+  id-whole : headOf (drop at s) ≡ Whole kind (lengthAt s at)
+  id-whole = id-head ∙ ap (Whole kind) (sym id-length)
+
+  id-behind : drop (at + 2 + lengthAt s at) s ≡ rest
+  id-behind =
+      let m : at + 2 + lengthAt s at ≡ at + (3 + n) = omega (arith, id-length) in
+      ap (λ (k : ℕ). drop k s) m ∙ sym (drop-drop (3 + n) at s) ∙ ap (drop (3 + n)) e ∙ drop-at (written (idTlv kind x)) rest (3 + n) (omega arith)
+
+  id-back : idIn s at ≡ x
+  id-back =
+      let m : lengthAt s at - 1 ≡ n = omega (arith, id-length) in
+      let u : getD s (at + 2) 0 ≡ x .subtype = sym (getD-drop at s 2 0) ∙ ap (λ (l : List ℕ). getD l 2 0) e in
+      let o : take (lengthAt s at - 1) (drop (at + 3) s) ≡ x .octets =
+      ap₂ take m (sym (drop-drop 3 at s) ∙ ap (drop 3) e) ∙ take-at (x .octets) rest n refl in
+      λ i. record { subtype = u i; octets = o i }
 
 module _ (d : Said) (t : List ℕ) where
   -- behind TLV 3, behind TLV 2, behind TLV 1
@@ -188,13 +205,13 @@ module _ (d : Said) (t : List ℕ) where
   rest₂ = written (secondsTlv (d .seconds)) ++ rest₃
 
   abbrev rest₁ : List ℕ
-  rest₁ = written (portTlv (d .subtype) (d .port)) ++ rest₂
+  rest₁ = written (portTlv (d .port)) ++ rest₂
 
   laid-out : encode d ++ t ≡ written (chassisTlv (d .chassis)) ++ rest₁
   unfolding encode tlvsOf octetsOf
   laid-out =
       let c = written (chassisTlv (d .chassis)) in
-      let p = written (portTlv (d .subtype) (d .port)) in
+      let p = written (portTlv (d .port)) in
       let q = written (secondsTlv (d .seconds)) in
       let f = octetsOf (fieldTlvs d) in
       let x = octetsOf (fieldTlvs d ++ (endTlv ∷ [])) in
@@ -206,117 +223,78 @@ module _ (d : Said) (t : List ℕ) where
     abbrev s : List ℕ
     s = encode d ++ t
 
-    kept : Held (rules d)
-    kept = ruled d sound
+    chassis-few : length (d .chassis .octets) ≤ 255
+    chassis-few = omega (arith, chassis-short (d .chassis) (kept d sound .chassis))
 
-    six : length (d .chassis) ≡ 6
-    six = eqb-true (length (d .chassis)) 6 (kept .0)
+    port-few : length (d .port .octets) ≤ 255
+    port-few = port-short (d .port) (kept d sound .port) .1
 
-    ported : Held (portRules (d .subtype) (length (d .port)))
-    ported = held (portRules (d .subtype) (length (d .port))) (kept .1 .0)
+    from-chassis : drop (portPlace s) s ≡ rest₁
+    unfolding portPlace
+    from-chassis = id-behind s 0 1 (d .chassis) rest₁ laid-out (omega arith) chassis-few
 
-    port-short : length (d .port) ≤ 255
-    port-short = leb-true (length (d .port)) 255 (ported .1 .1 .1 .0)
+    from-port : drop (secondsPlace s) s ≡ rest₂
+    unfolding secondsPlace
+    from-port = id-behind s (portPlace s) 2 (d .port) rest₂ from-chassis (omega arith) port-few
 
-    from-9 : drop 9 s ≡ rest₁
-    from-9 = ap (drop 9) laid-out ∙ drop-at (written (chassisTlv (d .chassis))) rest₁ 9 (omega (arith, six))
+    from-seconds : drop (restPlace s) s ≡ rest₃
+    from-seconds = sym (drop-drop 4 (secondsPlace s) s) ∙ ap (drop 4) from-port
 
-    second : headOf (drop 9 s) ≡ Whole 2 (suc (length (d .port)))
-    second =
-        let h = port-short in
-        ap headOf from-9 ∙ head-written (portTlv (d .subtype) (d .port)) rest₂ (record { kind = omega arith; body = omega arith })
+    -- where TLV 3 begins
+    third-place : secondsPlace s ≡ 6 + length (d .chassis .octets) + length (d .port .octets)
+    unfolding portPlace secondsPlace
+    third-place =
+        omega (
+          arith,
+          id-length s 0 1 (d .chassis) rest₁ laid-out (omega arith) chassis-few,
+          id-length s (portPlace s) 2 (d .port) rest₂ from-chassis (omega arith) port-few,
+        )
 
-    -- L of TLV 2
-    sized : portLength s ≡ suc (length (d .port))
-    sized = sym (port-length s second)
+    rest-is : restOf s ≡ record { extent = Octets (restPlace s + length (octetsOf (fieldTlvs d)) + 2); tlvs = laid (restPlace s) (fieldTlvs d) }
+    rest-is = ap (λ (l : List ℕ). walk l 0 (restPlace s)) from-seconds ∙ walk-octets (restPlace s) t (fields-passed d sound)
 
-    from-port : drop (11 + portLength s) s ≡ rest₂
-    from-port =
-        let e : 11 + portLength s ≡ 9 + (3 + length (d .port)) = omega (arith, sized) in
-        ap (λ (n : ℕ). drop n s) e
-        ∙ sym (drop-drop (3 + length (d .port)) 9 s)
-        ∙ ap (drop (3 + length (d .port))) from-9
-        ∙ drop-at (written (portTlv (d .subtype) (d .port))) rest₂ (3 + length (d .port)) (omega arith)
-
-    from-seconds : drop (15 + portLength s) s ≡ rest₃
-    from-seconds =
-        let e : 15 + portLength s ≡ 11 + portLength s + 4 = omega arith in
-        ap (λ (n : ℕ). drop n s) e ∙ sym (drop-drop 4 (11 + portLength s) s) ∙ ap (drop 4) from-port
-
-    rest-is : restOf s ≡ record { extent = Octets (15 + portLength s + length (octetsOf (fieldTlvs d)) + 2); tlvs = laid (15 + portLength s) (fieldTlvs d) }
-    rest-is = ap (λ (l : List ℕ). walk l 0 (15 + portLength s)) from-seconds ∙ walk-octets (15 + portLength s) t (fields-passed d sound)
-
-    whole-length : 15 + portLength s + length (octetsOf (fieldTlvs d)) + 2 ≡ length (encode d)
+    whole-length : restPlace s + length (octetsOf (fieldTlvs d)) + 2 ≡ length (encode d)
     whole-length =
         omega (
           arith,
-          sized,
-          six,
+          third-place,
           ap length laid-out,
           length-append (encode d) t,
-          length-append (d .chassis) rest₁,
-          length-append (d .port) rest₂,
+          length-append (d .chassis .octets) rest₁,
+          length-append (d .port .octets) rest₂,
           length-append (octetsOf (fieldTlvs d)) (written endTlv ++ t),
         )
 
-    octet-at : (at i : ℕ) {j : ℕ} → at + i ≡ j → getD s j 0 ≡ getD (drop at s) i 0
-    octet-at at i e = ap (λ (n : ℕ). getD s n 0) (sym e) ∙ sym (getD-drop at s i 0)
+    chassis-back : idIn s 0 ≡ d .chassis
+    chassis-back = id-back s 0 1 (d .chassis) rest₁ laid-out (omega arith) chassis-few
 
-    subtype-back : getD s 11 0 ≡ d .subtype
-    subtype-back = octet-at 9 2 refl ∙ ap (λ (l : List ℕ). getD l 2 0) from-9
-
-    port-passes : portOk (getD s 11 0) 2 (portLength s) ≡ true
-    port-passes =
-        let h = ported in
-        let p = leb-true 1 (length (d .port)) (h .1 .1 .0) in
-        let q = port-short in
-        rw (
-          subtype-back,
-          sized,
-          le-leb 2 (suc (length (d .port))) (omega arith),
-          le-leb (suc (length (d .port))) 256 (omega arith),
-          h .0,
-          h .1 .0,
-        )
+    port-back : idIn s (portPlace s) ≡ d .port
+    port-back = id-back s (portPlace s) 2 (d .port) rest₂ from-chassis (omega arith) port-few
 
     pub good-written : Good s (length (encode d))
     good-written =
         record {
-          first =
-              ap headOf laid-out
-              ∙ head-written (chassisTlv (d .chassis)) rest₁ (record { kind = omega arith; body = omega (arith, six) })
-              ∙ ap (λ (n : ℕ). Whole 1 (suc n)) six;
-          address = ap (λ (l : List ℕ). getD l 2 0) laid-out;
-          second = second ∙ ap (Whole 2) (sym sized);
-          port = port-passes;
+          first = id-whole s 0 1 (d .chassis) rest₁ laid-out (omega arith) chassis-few;
+          chassis = ap chassisOk chassis-back ∙ kept d sound .chassis;
+          second = id-whole s (portPlace s) 2 (d .port) rest₂ from-chassis (omega arith) port-few;
+          port = ap portOk port-back ∙ kept d sound .port;
           third = ap headOf from-port ∙ head-written (secondsTlv (d .seconds)) rest₃ (record { kind = omega arith; body = omega arith });
           rest = ap (λ (w : Walked). w .extent) rest-is ∙ ap Octets whole-length;
         }
 
     tlvs-back : tlvsIn s ≡ fieldTlvs d
-    tlvs-back = ap (λ (w : Walked). map (λ p. p .tlv) (w .tlvs)) rest-is ∙ laid-are (15 + portLength s) (fieldTlvs d)
-
-    chassis-back : sixAt s 3 ≡ d .chassis
-    chassis-back = ap (λ (l : List ℕ). sixAt l 3) laid-out ∙ six-of (high 1 (suc (length (d .chassis)))) (low (suc (length (d .chassis)))) 4 (d .chassis) rest₁ six
-
-    port-back : take (portLength s - 1) (drop 12 s) ≡ d .port
-    port-back =
-        let e : portLength s - 1 ≡ length (d .port) = omega (arith, sized) in
-        ap₂ take e (sym (drop-drop 3 9 s) ∙ ap (drop 3) from-9) ∙ take-at (d .port) rest₂ (length (d .port)) refl
+    tlvs-back = ap (λ (w : Walked). map (λ p. p .tlv) (w .tlvs)) rest-is ∙ laid-are (restPlace s) (fieldTlvs d)
 
     seconds-back : secondsIn s ≡ d .seconds
     seconds-back =
-        let a : 11 + portLength s + 2 ≡ 13 + portLength s = omega arith in
-        let b : 11 + portLength s + 3 ≡ 14 + portLength s = omega arith in
-        let x = octet-at (11 + portLength s) 2 a ∙ ap (λ (l : List ℕ). getD l 2 0) from-port in
-        let y = octet-at (11 + portLength s) 3 b ∙ ap (λ (l : List ℕ). getD l 3 0) from-port in
-        ap₂ pairOf x y ∙ omega arith
+        let octet : (i : ℕ) → getD s (secondsPlace s + i) 0 ≡ getD rest₂ i 0 =
+        λ i. sym (getD-drop (secondsPlace s) s i 0) ∙ ap (λ (l : List ℕ). getD l i 0) from-port in
+        ap₂ pairOf (octet 2) (octet 3) ∙ omega arith
 
     said-back : saidIn s (fieldTlvs d) ≡ d
     said-back =
         rw (
           chassis-back,
-          subtype-back,
           port-back,
           seconds-back,
           words-back d sound,
@@ -331,7 +309,7 @@ module _ (d : Said) (t : List ℕ) where
           first-string (d .manufacturer),
           first-string (d .model),
           first-string (d .number),
-          first-link (d .link) (kept .1 .1 .1 .1 .0),
+          first-link (d .link) (kept d sound .link),
           first-list (d .list),
         )
 

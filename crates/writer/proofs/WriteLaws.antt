@@ -79,7 +79,6 @@ countable-all d e =
     let list = listed-all (d .list) (k .list) in
     λ i. record {
       chassis = d .chassis;
-      subtype = d .subtype;
       port = d .port;
       seconds = d .seconds;
       words = d .words;

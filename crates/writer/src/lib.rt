@@ -7,6 +7,7 @@ use description::is_sound;
 use parts::all_inside;
 pub use reader::AddressList;
 pub use reader::Description;
+pub use reader::IdPart;
 pub use reader::Link;
 pub use reader::Part;
 

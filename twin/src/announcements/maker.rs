@@ -3,7 +3,8 @@
 
 use super::plan::{append, share, Field, Plan};
 use super::Case;
-use crate::frames::blocks::CHARACTERS;
+use crate::frames::blocks::{random_chassis, CHARACTERS};
+use crate::id::Id;
 use crate::reader::Refusal;
 use crate::rng::Rng;
 use crate::writer::{Description, LinkStrings};
@@ -101,10 +102,9 @@ impl Maker {
     /// A sound plan with nothing that may be left out.
     pub fn plain(&mut self) -> Plan {
         Plan {
-            chassis: self.rng.address(),
-            port_subtype: self.rng.between(1, 7) as u8,
+            chassis: random_chassis(&mut self.rng),
+            port: Id { subtype: self.rng.between(1, 7) as u8, octets: self.short(3) },
             seconds: self.rng.between(1, 65_535) as u16,
-            port: self.short(3),
             words: vec![],
             category: self.short(3),
             manufacturer: vec![],

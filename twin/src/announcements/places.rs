@@ -3,6 +3,8 @@
 
 use super::maker::Maker;
 use super::plan::{append, part, Field, Plan};
+use crate::frames::blocks::{address, local, CHARACTERS, HEX};
+use crate::id::Id;
 use crate::writer::{Description, LinkStrings, Part};
 
 impl Maker {
@@ -96,45 +98,52 @@ impl Maker {
         }
     }
 
-    /// A text of no octets has no port ID, though an empty part lies in it (L4, W7).
+    /// A text of no octets has no chassis and no port ID, though an empty part lies in it (L3, L4,
+    /// W7).
     fn empty_texts(&mut self) {
         for mut plan in [self.goodbye(), self.plain()] {
-            for field in [Field::Port, Field::Category, Field::ModelNumber] {
+            for field in [Field::Chassis, Field::Port, Field::Category, Field::ModelNumber] {
                 plan.at(field).clear();
             }
             let (mut description, text) = plan.in_order();
             self.add((description.clone(), text.clone()), 40, Err(9));
-            description.port.len = 1;
+            description.port.octets.len = 1;
+            self.add((description.clone(), text.clone()), 40, Err(9));
+            description.chassis.octets.len = 6;
             self.add((description, text), 40, Err(9));
         }
     }
 
     /// Parts that are the same, or that lie in one another, made by hand.
     fn shared_octets(&mut self) {
-        // A text of one octet; all strings are this octet, and the empty parts stand behind it.
+        // A text of one pair; all strings are this pair, and the empty parts stand behind it.
         let mut plan = self.plain();
+        plan.chassis = local(b"AF");
         for field in [Field::Port, Field::Category, Field::ModelNumber] {
-            *plan.at(field) = b"x".to_vec();
+            *plan.at(field) = b"AF".to_vec();
         }
-        let whole = Part { start: 0, len: 1 };
-        let nothing = Part { start: 1, len: 0 };
+        let whole = Part { start: 0, len: 2 };
+        let nothing = Part { start: 2, len: 0 };
         let mut description = plan
             .with(|string| Some(if string.is_empty() { nothing } else { whole }))
             .expect("each string has its part");
-        self.add_sound((description.clone(), b"x".to_vec()), plan.length(), plan.length());
-        plan.words = b"x".to_vec();
+        self.add_sound((description.clone(), b"AF".to_vec()), plan.length(), plan.length());
+        plan.words = b"AF".to_vec();
         description.words = whole;
-        self.add_sound((description, b"x".to_vec()), plan.length(), plan.length());
+        self.add_sound((description, b"AF".to_vec()), plan.length(), plan.length());
 
         // Both tables have the same addresses, or addresses that lie askew in one another; the
-        // other strings lie in them as well.
-        for (first, second) in [((0, 18), (0, 18)), ((0, 12), (3, 12)), ((5, 6), (0, 18))] {
+        // other strings lie in them as well, and so does each kind of chassis.
+        for (first, second, subtype, chassis) in [
+            ((0, 18), (0, 18), 4, (12, 6)),
+            ((0, 12), (3, 12), 4, (7, 8)),
+            ((5, 6), (0, 18), 7, (0, 18)),
+        ] {
             let part = |(start, len)| Part { start, len };
             let mut description = Description {
-                chassis: [2, 0, 0, 0, 0, 1],
-                port_subtype: 7,
+                chassis: Id { subtype, octets: part(chassis) },
+                port: Id { subtype: 7, octets: part((17, 1)) },
                 seconds: 120,
-                port: part((17, 1)),
                 words: part((1, 9)),
                 category: part((0, 18)),
                 manufacturer: part((6, 6)),
@@ -147,23 +156,27 @@ impl Maker {
                 }),
                 list: Some(part(second)),
             };
-            let text = self.words(18);
+            let text = self.rng.picks(HEX, 18);
             let strings = description.with(|part| Some(vec![0; part.len as usize]));
             let length = strings.expect("each string has its octets").length();
             self.add_sound((description.clone(), text.clone()), length, length);
             // With one octet less in the text, what reached its end lies outside.
             self.add((description.clone(), text[..17].to_vec()), length, Err(9));
-            description.port = part((18, 1));
+            description.port.octets = part((18, 1));
             self.add((description, text), length, Err(9));
         }
     }
 
     /// Every part is some window of a short text, so that parts overlap in all ways.
     fn windows(&mut self) {
-        for _ in 0..16 {
+        for _ in 0..18 {
+            let mut plan = self.some();
+            // The shortest text has room for so many.
+            plan.chassis.octets.truncate(12);
+            // What may stand in a local chassis may stand in all other strings too.
+            let among = if plan.chassis.subtype == 7 { HEX } else { CHARACTERS };
             let count = self.rng.between(12, 40);
-            let text = self.words(count);
-            let plan = self.some();
+            let text = self.rng.picks(among, count);
             let mut parts = Vec::new();
             for string in plan.strings() {
                 // As long as the plan's own string, which is sound; the octets are the text's.
@@ -178,15 +191,22 @@ impl Maker {
     /// Buffers that are empty, too short by little, exact and longer (R10, W4).
     fn rooms_for_sound(&mut self) {
         let mut frame_a = self.plain();
-        frame_a.chassis = [2, 0, 0, 0, 0, 1];
-        frame_a.port_subtype = 7;
+        frame_a.chassis = address(&[2, 0, 0, 0, 0, 1]);
+        frame_a.port = Id { subtype: 7, octets: b"1".to_vec() };
         frame_a.seconds = 120;
-        frame_a.port = b"1".to_vec();
         frame_a.category = b"A".to_vec();
         frame_a.model_number = b"7".to_vec();
         // Frame A of the bench has 37 octets behind its header.
         for room in 0..=39 {
             self.sound_in(&frame_a, room);
+        }
+        // B14 has two octets more, B15 four fewer.
+        for (id, length) in [(address(&[2, 0, 0, 0xFF, 0xFE, 0, 0, 1]), 39), (local(b"AF"), 33)] {
+            frame_a.chassis = id;
+            assert_eq!(frame_a.length(), length);
+            for room in [0, 32, 33, 36, 37, 38, 39, 40] {
+                self.sound_in(&frame_a, room);
+            }
         }
         let plans = [self.goodbye(), self.some(), self.full(), self.of_length(700)];
         for plan in plans {
@@ -203,15 +223,18 @@ impl Maker {
 
     /// The same for descriptions that break a rule: 9 goes before 10 (R11).
     fn rooms_for_broken(&mut self) {
-        let mut plans = vec![self.full(); 8];
-        plans[0].port_subtype = 8;
-        plans[1].port.clear();
+        let mut plans = vec![self.full(); 11];
+        plans[0].port.subtype = 8;
+        plans[1].port.octets.clear();
         plans[2].words.push(b'&');
         plans[3].category.clear();
         plans[4].model_number = vec![b'L'; 32];
         *plans[5].at(Field::Number) = vec![1; 5];
         plans[6].at(Field::ListAddresses).pop();
         plans[7].seconds = 0;
+        plans[8].chassis = address(&[2; 7]);
+        plans[9].chassis = local(b"af");
+        plans[10].chassis.subtype = 5;
         for plan in plans {
             let length = plan.length();
             for room in [0, length - 1, length, length + 40] {

@@ -9,6 +9,7 @@ pub type Plan = Description<Vec<u8>>;
 /// The strings of a description, in its order.
 #[derive(Clone, Copy, Debug, PartialEq, Eq)]
 pub enum Field {
+    Chassis,
     Port,
     Words,
     Category,
@@ -24,8 +25,9 @@ pub enum Field {
 use Field::*;
 
 impl Field {
-    /// All of them, each with the most octets that its own rule allows (L4, T10, T3, T7, T8).
-    pub const ALL: [(Field, usize); 10] = [
+    /// All of them, each with the most octets that its own rule allows (L3, L4, T10, T3, T7, T8).
+    pub const ALL: [(Field, usize); 11] = [
+        (Chassis, 64),
         (Port, 255),
         (Words, 255),
         (Category, 255),
@@ -38,7 +40,10 @@ impl Field {
         (ListAddresses, 6 * 84),
     ];
 
-    /// Whether it may have no octets with seconds above 0 (L4, W1, W2, T7, T8).
+    /// All but the chassis, whose number of octets depends on its subtype (L3).
+    pub const BEHIND_CHASSIS: &[(Field, usize)] = Field::ALL.split_at(1).1;
+
+    /// Whether it may have no octets with seconds above 0 (L3, L4, W1, W2, T7, T8).
     pub fn may_be_empty(self) -> bool {
         matches!(self, Words | Manufacturer | ModelName | LinkAddresses | ListAddresses)
     }
@@ -48,7 +53,8 @@ impl<S> Description<S> {
     /// One of the strings; where it is one of a table's, the table is present.
     pub(super) fn at(&mut self, field: Field) -> &mut S {
         match field {
-            Port => &mut self.port,
+            Chassis => &mut self.chassis.octets,
+            Port => &mut self.port.octets,
             Words => &mut self.words,
             Category => &mut self.category,
             Manufacturer => &mut self.manufacturer,
@@ -70,10 +76,9 @@ impl Plan {
     /// The description that a reading amounts to (W6).
     pub(super) fn read_back(reading: &Reading) -> Plan {
         Plan {
-            chassis: reading.outline.chassis,
-            port_subtype: reading.outline.port_subtype,
-            seconds: reading.outline.seconds,
+            chassis: reading.outline.chassis.clone(),
             port: reading.outline.port.clone(),
+            seconds: reading.outline.seconds,
             words: reading.description.clone(),
             category: reading.category.clone(),
             manufacturer: reading.manufacturer.clone(),
@@ -91,7 +96,7 @@ impl Plan {
     /// How many octets the LLDPDU would have (W1), from the lengths of the strings alone: the two
     /// octets of each header, and L by L3 to L5, T2, T7 and T8.
     pub(super) fn length(&self) -> usize {
-        let leading = (2 + 7) + (2 + 1 + self.port.len()) + (2 + 2);
+        let [chassis, port] = [&self.chassis, &self.port].map(|id| 2 + 1 + id.octets.len());
         let words = if self.words.is_empty() { 0 } else { 2 + self.words.len() };
         let devices: usize =
             [&self.category, &self.manufacturer, &self.model_name, &self.model_number]
@@ -103,7 +108,7 @@ impl Plan {
             2 + 7 + interface.len() + number.len() + addresses.len()
         });
         let list = self.list.as_ref().map_or(0, |addresses| 2 + 5 + addresses.len());
-        leading + words + devices + link + list + 2
+        chassis + port + (2 + 2) + words + devices + link + list + 2
     }
 
     /// All strings that are there, in the order of the description.

@@ -3,6 +3,7 @@
 
 use super::maker::{Maker, LONGEST_LLDPDU};
 use super::plan::{Field, Plan};
+use crate::frames::blocks::wrong_chassis;
 use crate::writer::Part;
 
 impl Maker {
@@ -41,7 +42,7 @@ impl Maker {
         if self.rng.once_in(6) {
             plan = self.goodbye();
         }
-        for &(field, longest) in &Field::ALL[..6] {
+        for &(field, longest) in &Field::ALL[Field::Port as usize..=Field::ModelNumber as usize] {
             if !plan.at(field).is_empty() {
                 let length = match self.rng.below(8) {
                     0 => longest,
@@ -67,10 +68,10 @@ impl Maker {
     /// Breaks one rule; a second one broken on top of it cannot mend the first.
     fn break_a_rule(&mut self, plan: &mut Plan) {
         let more = self.rng.between(1, 9);
-        match self.rng.below(14) {
-            0 => plan.port = vec![],
-            1 => plan.port = self.rng.octets(255 + more),
-            2 => plan.port_subtype = self.rng.pick(&[0, 8, 16, 129, 255]),
+        match self.rng.below(17) {
+            0 => plan.port.octets = vec![],
+            1 => plan.port.octets = self.rng.octets(255 + more),
+            2 => plan.port.subtype = self.rng.pick(&[0, 8, 16, 129, 255]),
             3 => plan.words = self.words(255 + more),
             4 => plan.words = self.rng.pick(&["a&b", "line\n", "[x]", "\u{E9}"]).into(),
             5 => plan.category = self.rng.octets(255 + more),
@@ -89,6 +90,10 @@ impl Maker {
                 *plan.at(wrong) = self.rng.octets(length);
             }
             12 => plan.link = Some(self.link(84)),
+            13..=15 => {
+                let wrong = wrong_chassis();
+                plan.chassis = wrong[self.rng.below(wrong.len())].clone();
+            }
             _ => {
                 let piece = self.rng.between(1, 5);
                 plan.list = Some(self.rng.octets(6 * more + piece));
@@ -101,7 +106,7 @@ impl Maker {
         for _ in 0..20 {
             let plan = self.random_plan(false);
             let (mut description, text) = plan.in_order();
-            let (field, _) = self.rng.pick(&Field::ALL[..6]);
+            let (field, _) = self.rng.pick(&Field::ALL[..=Field::ModelNumber as usize]);
             let part = description.at(field);
             let far = self.rng.word() >> self.rng.below(56);
             let far = far.max(text.len() as u64 + 1);

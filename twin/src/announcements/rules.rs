@@ -3,12 +3,14 @@
 
 use super::maker::{Maker, LONGEST_LLDPDU};
 use super::plan::{Field, Plan};
-use crate::frames::blocks::CHARACTERS;
+use crate::frames::blocks::*;
+use crate::id::Id;
 use crate::writer::LinkStrings;
 
 impl Maker {
     pub fn rules(&mut self) {
         self.combinations();
+        self.chassis_ids();
         self.port_ids();
         self.words_of_ports();
         self.device_strings();
@@ -62,25 +64,46 @@ impl Maker {
         }
     }
 
+    /// Subtype, number and characters of the chassis (L3), with seconds 0 too.
+    fn chassis_ids(&mut self) {
+        for (ids, is_sound) in [(right_chassis(), true), (wrong_chassis(), false)] {
+            for (id, number) in ids.into_iter().zip(0..) {
+                let mut plan = self.plain();
+                plan.chassis = id.clone();
+                self.judged(&plan, is_sound);
+                if is_sound || number % 4 == 0 {
+                    let mut plan = self.goodbye();
+                    plan.chassis = id;
+                    self.judged(&plan, is_sound);
+                }
+            }
+        }
+        // Any octets will do in an address, also such as look like an End or like a header.
+        for octets in [&[0xEE; 6][..], &[0xEE; 8], &[0xFE, 0x07, 0x00, 0x00, 0x04, 0x02]] {
+            let mut plan = self.full();
+            plan.chassis = address(octets);
+            self.sound(&plan);
+        }
+    }
+
     /// Subtype and octets of the port ID (L4), with seconds 0 too.
     fn port_ids(&mut self) {
         for subtype in [0, 1, 2, 3, 4, 5, 6, 7, 8, 9, 128, 255] {
             let mut plan = self.some();
-            plan.port_subtype = subtype;
+            plan.port.subtype = subtype;
             self.judged(&plan, (1..=7).contains(&subtype));
         }
         // 257 and 512 look right in eight or nine bits only.
         self.lengths(Field::Port, &[1, 2, 254, 255], &[0, 256, 257, 511, 512]);
         for (subtype, length) in [(0, 1), (1, 1), (7, 1), (8, 1), (3, 0), (3, 255), (3, 256)] {
             let mut plan = self.goodbye();
-            plan.port_subtype = subtype;
-            plan.port = self.rng.octets(length);
+            plan.port = Id { subtype, octets: self.rng.octets(length) };
             self.judged(&plan, (1..=7).contains(&subtype) && (1..=255).contains(&length));
         }
         // Any octets will do, also such as look like an End or like a header.
         for octets in [vec![0, 0], vec![0xFE, 0x07], vec![0xEE; 3], vec![0xFF; 255]] {
             let mut plan = self.some();
-            plan.port = octets;
+            plan.port.octets = octets;
             self.sound(&plan);
         }
     }
@@ -273,20 +296,29 @@ impl Maker {
         }
     }
 
-    /// Around 1,500 octets (R9), reached in several ways.
+    /// Around 1,500 octets (R9), reached in several ways and with each kind of chassis.
     fn totals(&mut self) {
-        for _ in 0..5 {
+        let [six, eight] = [6, 8].map(|count| address(&characters(count)));
+        let [two, twenty, most] = [2, 20, 64].map(|count| local(&characters(count)));
+        for id in [&six, &eight, &two, &twenty, &most] {
             for total in [1499, 1500, 1501] {
-                let plan = self.of_length(total);
+                let plan = self.of_length_with(id, total);
                 self.judged(&plan, total <= LONGEST_LLDPDU);
             }
+        }
+        // One rest for several chassis: with the last two it is too long.
+        let mut plan = self.of_length_with(&six, LONGEST_LLDPDU);
+        for (id, total) in [(&two, 1496), (&six, 1500), (&eight, 1502), (&most, 1558)] {
+            plan.chassis = id.clone();
+            assert_eq!(plan.length(), total);
+            self.judged(&plan, total <= LONGEST_LLDPDU);
         }
         for total in [1502, 1506, 1600] {
             let plan = self.of_length(total);
             self.broken(&plan);
         }
         // All that a description can hold, and more than any frame.
-        let plan = self.fullest();
+        let plan = self.fullest(&most);
         self.broken(&plan);
         let plan = self.of_length(1501);
         for room in [0, 1500, 1600] {
@@ -295,11 +327,12 @@ impl Maker {
     }
 
     /// Every string as long as its own rule allows; only the whole is too long.
-    fn fullest(&mut self) -> Plan {
+    fn fullest(&mut self, chassis: &Id) -> Plan {
         let mut plan = self.full();
+        plan.chassis = chassis.clone();
         // With 83 addresses that leaves L at 511 (T7).
         let (n, m) = self.rng.pick(&[(2, 4), (3, 3), (4, 2)]);
-        for (field, longest) in Field::ALL {
+        for &(field, longest) in Field::BEHIND_CHASSIS {
             let length = match field {
                 Field::Interface => n,
                 Field::Number => m,
@@ -312,10 +345,16 @@ impl Maker {
 
     /// A plan whose LLDPDU would have exactly that many octets, and that breaks no other rule.
     pub fn of_length(&mut self, total: usize) -> Plan {
-        let mut plan = self.fullest();
+        let chassis = random_chassis(&mut self.rng);
+        self.of_length_with(&chassis, total)
+    }
+
+    /// The same with this chassis.
+    fn of_length_with(&mut self, chassis: &Id, total: usize) -> Plan {
+        let mut plan = self.fullest(chassis);
         while plan.length() > total {
             let too_many = plan.length() - total;
-            let (field, _) = self.rng.pick(&Field::ALL);
+            let (field, _) = self.rng.pick(Field::BEHIND_CHASSIS);
             let step = match field {
                 Field::LinkAddresses | Field::ListAddresses => 6,
                 _ => 1,

@@ -3,9 +3,10 @@
 
 use super::desk::Desk;
 use super::Event;
-use crate::frames::blocks::{category, leading_of, lldpdu, model_number, pool, Tlv};
+use crate::frames::blocks::*;
 use crate::frames::maker::Maker as FrameMaker;
-use crate::reader::{outline_frame, Address};
+use crate::id::Id;
+use crate::reader::outline_frame;
 use crate::rng::{self, Rng};
 
 pub struct Maker {
@@ -19,14 +20,18 @@ pub struct Maker {
 /// Who sends a frame: an identity but for the receiving port (N2).
 #[derive(Clone, Debug, PartialEq, Eq)]
 pub struct Agent {
-    pub chassis: Address,
-    pub subtype: u8,
-    pub port: Vec<u8>,
+    pub chassis: Id,
+    pub port: Id,
 }
 
 impl Agent {
+    /// One that has the port ID of frame A.
+    pub fn of(chassis: Id) -> Agent {
+        Agent { chassis, port: Id { subtype: 7, octets: b"1".to_vec() } }
+    }
+
     pub fn announcement(&self, seconds: u16, later: &[Tlv]) -> Vec<u8> {
-        lldpdu(&leading_of(self.chassis, self.subtype, &self.port, seconds), later)
+        lldpdu(&leading_of(&self.chassis, &self.port, seconds), later)
     }
 }
 
@@ -63,10 +68,15 @@ impl Maker {
         self.call(Event::Frame { port, frame });
     }
 
+    /// The kinds of chassis come in turn (L3).
     pub fn unseen_agent(&mut self) -> Agent {
         self.unseen += 1;
         let [high, low] = self.unseen.to_be_bytes();
-        Agent { chassis: [0x0A, 0, 0, 0, high, low], subtype: 7, port: b"1".to_vec() }
+        Agent::of(match self.unseen % 3 {
+            0 => address(&[0x0A, 0, 0, 0, high, low]),
+            1 => address(&[0x0A, 0, 0, 0, 0, 0, high, low]),
+            _ => local(format!("{:04X}", self.unseen).as_bytes()),
+        })
     }
 
     /// Nothing, what makes it HTIP, or link information.
@@ -100,6 +110,6 @@ impl Maker {
     pub fn agent_at(&self, place: usize) -> Agent {
         let outline = self.desk.table.outline(self.desk.buffer(), place);
         let outline = outline.expect("the desk's table is fit");
-        Agent { chassis: outline.chassis, subtype: outline.port_subtype, port: outline.port }
+        Agent { chassis: outline.chassis, port: outline.port }
     }
 }

@@ -3,10 +3,12 @@
 
 use super::maker::{Agent, Maker};
 use super::Event;
-use crate::frames::blocks::{from_a_group, neighbour, pool, tlv, Tlv, HEADER};
+use crate::frames::blocks::*;
+use crate::frames::hex;
+use crate::id::Id;
 use crate::table::{BUFFER_OCTETS, COMMON, MOST, PLACE_OCTETS, PORTS, SURE};
 
-const SEQUENCES: usize = 66;
+const SEQUENCES: usize = 64;
 const CALLS: usize = 44;
 
 const ALL_PORTS: [usize; PORTS] = [0, 1, 2, 3, 4, 5, 6, 7];
@@ -165,7 +167,10 @@ impl Maker {
     /// A frame from a known agent, one much like it, or any; sometimes with a fault, or from a
     /// group address (F4).
     fn random_frame(&mut self, ports: &[usize]) -> Event {
-        let (port, agent) = self.random_sender(ports);
+        let (port, mut agent) = self.random_sender(ports);
+        if self.rng().once_in(25) {
+            agent.chassis = self.wrong_chassis(agent.chassis);
+        }
         let seconds = self.random_seconds();
         let mut later = self.random_later();
         if self.rng().once_in(25) {
@@ -237,30 +242,67 @@ impl Maker {
     fn much_like(&mut self, port: usize, mut agent: Agent, ports: &[usize]) -> (usize, Agent) {
         match self.rng().below(14) {
             0 => return (self.random_port(ports), agent),
-            1 => agent.chassis[self.rng().below(6)] ^= 1 << self.rng().below(8),
-            2 => agent.subtype = self.rng().between(1, 7) as u8,
-            3 => agent.port.push(self.rng().pick(&[0, 0x31])),
-            4 if agent.port.len() > 1 => drop(agent.port.pop()),
-            4 | 5 => {
-                let last = agent.port.len() - 1;
-                agent.port[last] ^= 1 << self.rng().below(8);
+            1 | 2 => agent.chassis = self.another_chassis(agent.chassis),
+            3 => agent.port.subtype = self.rng().between(1, 7) as u8,
+            4 => agent.port.octets.push(self.rng().pick(&[0, 0x31])),
+            5 if agent.port.octets.len() > 1 => drop(agent.port.octets.pop()),
+            5 | 6 => {
+                let last = agent.port.octets.len() - 1;
+                agent.port.octets[last] ^= 1 << self.rng().below(8);
             }
             _ => {}
         }
-        agent.port.truncate(255);
+        agent.port.octets.truncate(255);
         (port, agent)
+    }
+
+    /// A right chassis that differs from this one in an octet, in the number of octets, in the
+    /// subtype alone, or in that the one spells the other (L3, N2).
+    fn another_chassis(&mut self, Id { subtype, mut octets }: Id) -> Id {
+        let place = self.rng().below(octets.len());
+        match (self.rng().below(4), subtype, octets.len()) {
+            (0, 4, 6) | (0, 7, ..=62) => octets.extend(b"00"),
+            (0, 4, _) | (0, 7, _) => octets.truncate(octets.len() - 2),
+            (1, 7, 6 | 8) => return address(&octets),
+            (1, 4, _) if octets.iter().all(|octet| HEX.contains(octet)) => return local(&octets),
+            (2, 4, _) => return local(hex(&octets).as_bytes()),
+            (_, 4, _) => octets[place] ^= 1 << self.rng().below(8),
+            _ => octets[place] = self.rng().pick(HEX),
+        }
+        Id { subtype, octets }
+    }
+
+    /// A chassis that would be this one but for L3: an octet too few or too many, a small letter or
+    /// another foreign character, or another subtype.
+    pub fn wrong_chassis(&mut self, Id { mut subtype, mut octets }: Id) -> Id {
+        let place = self.rng().below(octets.len());
+        match self.rng().below(7) {
+            0 | 1 => drop(octets.remove(place)),
+            2 | 3 => octets.insert(place, self.rng().pick(HEX)),
+            4 | 5 if subtype == 7 => octets[place] = self.rng().pick(b"abcdefgG/:@`"),
+            _ => subtype = self.rng().pick(&[0, 1, 2, 3, 5, 6, 8, 255]),
+        }
+        Id { subtype, octets }
     }
 
     /// Few chassis and few port IDs, so that many identities differ in one part alone.
     fn random_agent(&mut self) -> Agent {
-        let chassis =
-            [[2, 0, 0, 0, 0, 1], [2, 0, 0, 0, 0, 2], [3, 0, 0, 0, 0, 1], [2, 0, 1, 0, 0, 1]];
-        let port = match self.rng().below(40) {
+        let chassis = match self.rng().below(8) {
+            0 => address(&[2, 0, 0, 0, 0, 1]),
+            1 => address(&[3, 0, 0, 0, 0, 1]),
+            2 => address(&[2, 0, 0, 0, 0, 1, 0, 0]),
+            3 => local(b"020000000001"),
+            4 => address(b"012345"),
+            5 => local(b"012345"),
+            6 => address(b"01234567"),
+            _ => local(b"01234567"),
+        };
+        let octets = match self.rng().below(40) {
             0 => vec![0x31; 255],
             1 => vec![0x31; 254],
             n => [&b"1"[..], b"2", b"11", b"1\0", b"\0"][n % 5].to_vec(),
         };
-        Agent { chassis: self.rng().pick(&chassis), subtype: self.rng().pick(&[1, 5, 7]), port }
+        Agent { chassis, port: Id { subtype: self.rng().pick(&[1, 5, 7]), octets } }
     }
 
     /// Used and free places, and an LLDPDU that fills its place, mostly with a free one behind it.

@@ -2,9 +2,9 @@
 //! Edits are proposed at random; those are taken that break the one condition they are meant for.
 
 use super::desk::STORE_OCTETS;
-use super::maker::Maker;
+use super::maker::{Agent, Maker};
 use super::{Event, Trial};
-use crate::frames::blocks::{from_a_group, pool};
+use crate::frames::blocks::{from_a_group, leading_of, pool};
 use crate::reader::outline_lldpdu;
 use crate::table::{octets_of, BUFFER_OCTETS, COMMON, MOST, PLACE_OCTETS, PORTS, SURE};
 
@@ -23,6 +23,7 @@ pub enum Way {
     LengthAbove1500,
     AnotherLength,
     InvalidLldpdu,
+    WrongChassis,
     OctetBehind,
     NoSecondsLeft,
     TooManySecondsLeft,
@@ -35,7 +36,7 @@ impl Way {
     /// Every way, the condition of N5 that it breaks, and how many tables are spoiled so after a
     /// sequence. The last two ways need a port with six, or the sixteen taken, which not all
     /// sequences end with.
-    pub const ALL: [(Way, char, usize); 16] = [
+    pub const ALL: [(Way, char, usize); 17] = [
         (Way::ShorterBuffer, 'a', 5),
         (Way::LongerBuffer, 'a', 5),
         (Way::EmptyBuffer, 'a', 5),
@@ -46,10 +47,11 @@ impl Way {
         (Way::LengthAbove1500, 'c', 5),
         (Way::AnotherLength, 'c', 5),
         (Way::InvalidLldpdu, 'c', 5),
+        (Way::WrongChassis, 'c', 5),
         (Way::OctetBehind, 'c', 5),
         (Way::NoSecondsLeft, 'c', 5),
         (Way::TooManySecondsLeft, 'c', 5),
-        (Way::IdentityTwice, 'd', 5),
+        (Way::IdentityTwice, 'd', 6),
         (Way::SevenOnAPort, 'e', 8),
         (Way::SeventeenBeyondTwo, 'f', 15),
     ];
@@ -147,6 +149,7 @@ impl Maker {
             Way::LengthAbove1500 => self.length_above_1500(),
             Way::AnotherLength => self.another_length(),
             Way::InvalidLldpdu => self.invalid_lldpdu(),
+            Way::WrongChassis => self.chassis_becomes_wrong(),
             Way::OctetBehind => {
                 let place = self.any_used()?;
                 let length = usize::from(self.desk.table.length[place]);
@@ -255,7 +258,8 @@ impl Maker {
         let mut lldpdu =
             self.desk.buffer()[start..][..usize::from(self.desk.table.length[place])].to_vec();
         let some = self.rng().below(lldpdu.len());
-        let front = self.rng().below(19);
+        let leading = self.behind_port_id(place) + 4 - start;
+        let front = self.rng().below(leading);
         let at = self.rng().pick(&[some, front, lldpdu.len() - 1, lldpdu.len() - 2]);
         lldpdu[at] = match self.rng().below(3) {
             0 => self.rng().octet(),
@@ -264,6 +268,34 @@ impl Maker {
         };
         let edit = Event::SetOctet { at: start + at, octet: lldpdu[at] };
         outline_lldpdu(&lldpdu).is_err().then(|| vec![edit])
+    }
+
+    /// The chassis alone breaks a rule (L3). What it has more, the port ID has fewer.
+    fn chassis_becomes_wrong(&mut self) -> Option<Vec<Event>> {
+        let place = self.any_used()?;
+        let mut agent = self.agent_at(place);
+        let before = agent.chassis.octets.len();
+        agent.chassis = self.wrong_chassis(agent.chassis);
+        let rest = before + agent.port.octets.len() - agent.chassis.octets.len();
+        agent.port.octets.resize(rest, b'1');
+        if (1..=255).contains(&rest) {
+            self.ids_become(place, &agent)
+        } else {
+            None
+        }
+    }
+
+    /// Chassis ID and port ID of a record become those of an agent; none where these would have
+    /// another number of octets together.
+    fn ids_become(&self, place: usize, agent: &Agent) -> Option<Vec<Event>> {
+        let start = octets_of(place).start;
+        let [chassis, port, _] = leading_of(&agent.chassis, &agent.port, 0);
+        let ids = [chassis, port].concat();
+        let changes = |(at, octet): (usize, u8)| {
+            (self.desk.buffer()[at] != octet).then_some(Event::SetOctet { at, octet })
+        };
+        (start + ids.len() == self.behind_port_id(place))
+            .then(|| (start..).zip(ids).filter_map(changes).collect())
     }
 
     /// What is left goes up, or the seconds of the LLDPDU go down.
@@ -283,7 +315,8 @@ impl Maker {
 
     /// Where the third TLV of the LLDPDU at a place begins (L3 to L5).
     fn behind_port_id(&self, place: usize) -> usize {
-        octets_of(place).start + 9 + (3 + self.agent_at(place).port.len())
+        let Agent { chassis, port } = self.agent_at(place);
+        octets_of(place).start + (3 + chassis.octets.len()) + (3 + port.octets.len())
     }
 
     /// The seconds of the LLDPDU at a place, behind the port ID (L5).
@@ -294,7 +327,7 @@ impl Maker {
     }
 
     /// A record is copied as it is or with other seconds; one takes the port of another; or one
-    /// takes the chassis of another.
+    /// takes chassis and port ID of another.
     fn identity_twice(&mut self) -> Option<Vec<Event>> {
         let from = self.any_used()?;
         match self.rng().below(4) {
@@ -310,10 +343,7 @@ impl Maker {
             }
             _ => {
                 let place = self.any_used()?;
-                let chassis = self.agent_at(from).chassis;
-                let start = octets_of(place).start + 3;
-                let edits = chassis.iter().zip(start..);
-                Some(edits.map(|(&octet, at)| Event::SetOctet { at, octet }).collect())
+                self.ids_become(place, &self.agent_at(from))
             }
         }
     }

@@ -1,7 +1,9 @@
 //! Building blocks of the cases: headers, TLVs and LLDPDUs, right and wrong ones.
 //! Blocks whose names end in "claiming" may state a length or a count that is not true.
 
+use crate::id::Id;
 use crate::reader::Address;
+use crate::rng::Rng;
 
 pub const EVERYONE: Address = [0xFF; 6];
 pub const NEAREST: Address = [0x01, 0x80, 0xC2, 0x00, 0x00, 0x0E];
@@ -26,6 +28,9 @@ pub const LONGEST_BODY: usize = 511 - 4;
 pub const CHARACTERS: &[u8] =
     b" ABCDEFGHIJKLMNOPQRSTUVWXYZabcdefghijklmnopqrstuvwxyz0123456789-'()+,./:=?;!*#@$_%";
 
+/// The characters of a local chassis (L3), typed once more too.
+pub const HEX: &[u8] = b"0123456789ABCDEF";
+
 pub type Tlv = Vec<u8>;
 
 pub fn tlv(kind: u8, value: &[u8]) -> Tlv {
@@ -41,6 +46,90 @@ pub fn tlv_claiming(kind: u8, length: usize, value: &[u8]) -> Tlv {
 
 pub fn end() -> Tlv {
     vec![0, 0]
+}
+
+/// A chassis that is an address, of six or eight octets where it is right (L3).
+pub fn address(octets: &[u8]) -> Id {
+    Id { subtype: 4, octets: octets.to_vec() }
+}
+
+/// A chassis of local characters (L3).
+pub fn local(characters: &[u8]) -> Id {
+    Id { subtype: 7, octets: characters.to_vec() }
+}
+
+/// So many characters of a local chassis. The first two are the last digit and the first letter.
+pub fn characters(count: usize) -> Vec<u8> {
+    HEX.iter().copied().cycle().skip(9).take(count).collect()
+}
+
+/// Any chassis (L3). The shortest and the longest local ones come often.
+pub fn random_chassis(rng: &mut Rng) -> Id {
+    match rng.below(3) {
+        0 => address(&rng.octets(6)),
+        1 => address(&rng.octets(8)),
+        _ => {
+            let pairs = match rng.below(8) {
+                0 => 1,
+                1 => 32,
+                _ => rng.between(1, 9),
+            };
+            local(&rng.picks(HEX, 2 * pairs))
+        }
+    }
+}
+
+/// Chassis of each kind at its limits (L3). The octets of all but the last four are characters, so
+/// that subtype and number alone make the difference.
+pub fn right_chassis() -> Vec<Id> {
+    let mut right: Vec<Id> = [6, 8].map(|count| address(&characters(count))).to_vec();
+    right.extend([2, 4, 6, 8, 10, 12, 16, 62, 64].map(|count| local(&characters(count))));
+    right.extend([&[0x00; 6][..], &[0xFF; 8], b"@G`f/:", b"abcdef\x80\x00"].map(address));
+    right
+}
+
+/// Chassis that break L3 in one thing alone.
+pub fn wrong_chassis() -> Vec<Id> {
+    [miscounted_chassis(), mistyped_chassis(), misspelled_chassis()].concat()
+}
+
+/// The number of octets is wrong. The last ones look right in eight bits only.
+fn miscounted_chassis() -> Vec<Id> {
+    let of_address = [0, 1, 2, 3, 4, 5, 7, 9, 10, 12, 14, 16, 64, 262, 264];
+    let of_local = [0, 1, 3, 5, 7, 9, 11, 61, 63, 65, 66, 67, 68, 128, 258, 320];
+    let addresses = of_address.map(|count| address(&characters(count)));
+    addresses.into_iter().chain(of_local.map(|count| local(&characters(count)))).collect()
+}
+
+/// The subtype is wrong; the octets would suit 4 and 7, or 7.
+fn mistyped_chassis() -> Vec<Id> {
+    let mut mistyped = Vec::new();
+    for subtype in [0, 1, 2, 3, 5, 6, 8, 0x84, 0x87, 255] {
+        for count in [6, 8, 2] {
+            mistyped.push(Id { subtype, octets: characters(count) });
+        }
+    }
+    mistyped
+}
+
+/// A character is wrong: the first, the last, or one in the middle.
+fn misspelled_chassis() -> Vec<Id> {
+    let mut misspelled = Vec::new();
+    // The neighbours of digits and letters, small letters, and `0` with another bit.
+    for (foreign, i) in b"/:@G`afg\xB0".iter().zip(0..) {
+        let far = [0, 32, 63][i % 3];
+        for (count, place) in [(2, 0), (2, 1), (12, 0), (12, 7), (12, 11), (64, far)] {
+            let mut octets = characters(count);
+            octets[place] = *foreign;
+            misspelled.push(local(&octets));
+        }
+    }
+    misspelled
+}
+
+/// The TLV of an ID: type 1 for a chassis, 2 for a port ID.
+pub fn id_tlv(kind: u8, id: &Id) -> Tlv {
+    tlv(kind, &[&[id.subtype], id.octets.as_slice()].concat())
 }
 
 pub fn chassis() -> Tlv {
@@ -59,12 +148,13 @@ pub fn leading() -> [Tlv; 3] {
     [chassis(), port(), seconds()]
 }
 
-pub fn leading_of(chassis: Address, subtype: u8, port: &[u8], seconds: u16) -> [Tlv; 3] {
-    [
-        tlv(1, &[&[4], &chassis[..]].concat()),
-        tlv(2, &[&[subtype], port].concat()),
-        tlv(3, &seconds.to_be_bytes()),
-    ]
+pub fn leading_of(chassis: &Id, port: &Id, seconds: u16) -> [Tlv; 3] {
+    [id_tlv(1, chassis), id_tlv(2, port), tlv(3, &seconds.to_be_bytes())]
+}
+
+/// The first three of frame A with another chassis.
+pub fn leading_with(chassis: &Id) -> [Tlv; 3] {
+    [id_tlv(1, chassis), port(), seconds()]
 }
 
 pub fn ttc(subtype: u8, body: &[u8]) -> Tlv {
@@ -180,7 +270,11 @@ pub fn lldpdu(leading: &[Tlv], later: &[Tlv]) -> Vec<u8> {
 
 /// Every field once, so that each prefix of it stops at a telling place.
 pub fn typical() -> Vec<u8> {
-    let later = [
+    lldpdu(&leading(), &every_field())
+}
+
+pub fn every_field() -> [Tlv; 8] {
+    [
         description(b"port-3"),
         device(1, b"TV"),
         device(2, b"0A1B2C"),
@@ -189,6 +283,5 @@ pub fn typical() -> Vec<u8> {
         tlv(8, &[1, 2, 3]),
         link(&[6], &[0, 3], &[neighbour(1), SOUGHT]),
         list(&[neighbour(2)]),
-    ];
-    lldpdu(&leading(), &later)
+    ]
 }

@@ -4,6 +4,7 @@
 use super::blocks::*;
 use super::maker::Maker;
 use super::Kind;
+use crate::id::Id;
 use crate::reader::Address;
 
 impl Maker {
@@ -55,13 +56,13 @@ impl Maker {
     /// A valid LLDPDU with padding, and an address to ask for. It is HTIP exactly if not spoilt.
     fn random_lldpdu(&mut self, spoilt: bool) -> (Vec<u8>, Address) {
         let pool = pool();
-        let chassis = self.rng.address();
+        let chassis = random_chassis(&mut self.rng);
         let subtype = self.rng.between(1, 7) as u8;
         let length = self.rng.between(1, 12);
-        let port = self.rng.octets(length);
+        let port = Id { subtype, octets: self.rng.octets(length) };
         let seconds = u16::from_be_bytes([self.rng.octet(), self.rng.octet()]);
         let later = self.random_later(&pool, spoilt);
-        let inside = lldpdu(&leading_of(chassis, subtype, &port, seconds), &later);
+        let inside = lldpdu(&leading_of(&chassis, &port, seconds), &later);
         ([inside, self.random_padding()].concat(), self.rng.pick(&pool))
     }
 

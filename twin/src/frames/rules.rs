@@ -14,6 +14,7 @@ impl Maker {
         self.faults_besides_the_source();
         self.other_group_addresses();
         self.leading_tlvs();
+        self.chassis_ids();
         self.prefixes();
         self.cuts();
         self.order_of_refusals();
@@ -47,13 +48,17 @@ impl Maker {
         }
         for length in [1513, 1514, 1515, 1516, 1770, 2000] {
             self.raw(padded(&whole, length));
+            // The LLDPDU itself reaches the last octet.
+            let filled = self.filled(length - HEADER);
+            self.frame(filled);
+        }
+        for length in [1513, 1514, 1515] {
             let noise = self.rng.octets(length - whole.len());
             self.raw([whole.clone(), noise].concat());
 
-            // The LLDPDU itself reaches the last octet; without that octet its End is missing.
-            let filled = self.filled(length - HEADER);
+            // Without the last octet of the LLDPDU its End is missing.
+            let filled = self.filled(length - HEADER + 1);
             self.frame(filled[..filled.len() - 1].to_vec());
-            self.frame(filled);
 
             // The length is judged before a wrong first TLV and before a wrong later one (R11).
             for inside in [end(), lldpdu(&leading(), &[seconds()])] {
@@ -150,9 +155,11 @@ impl Maker {
     /// Group addresses that are no source: the chassis, and what link information and address list
     /// name (F4).
     fn other_group_addresses(&mut self) {
-        let first_three = leading_of(NO_STATION, 7, b"1", 120);
-        let announced = lldpdu(&first_three, &[category(), model_number()]);
-        self.raw(headed(EVERYONE, SOUGHT, LLDP, &announced));
+        for group in [&NO_STATION[..], &[0x03, 0x00, 0x00, 0xFF, 0xFE, 0x00, 0x00, 0x01]] {
+            let first_three = leading_with(&address(group));
+            let announced = lldpdu(&first_three, &[category(), model_number()]);
+            self.raw(headed(EVERYONE, SOUGHT, LLDP, &announced));
+        }
         let fields = [category(), model_number(), link(&[6], &[3], &[NEAREST]), list(&[EVERYONE])];
         let naming = headed(NEAREST, SOUGHT, LLDP, &lldpdu(&leading(), &fields));
         self.add(Kind::Frame, naming, NEAREST);
@@ -199,13 +206,6 @@ impl Maker {
                 self.led_by(place, tlv_claiming(right[0] >> 1, claimed, value));
             }
         }
-        for subtype in [0, 1, 2, 3, 4, 5, 6, 7, 0x84, 255] {
-            self.led_by(0, tlv(1, &[subtype, 2, 0, 0, 0, 0, 9]));
-        }
-        // One too small, right, one too large, and right but for the ninth bit of L.
-        for length in [0, 1, 6, 7, 8, 263] {
-            self.led_by(0, tlv(1, &vec![4; length]));
-        }
         for subtype in [0, 1, 2, 3, 4, 5, 6, 7, 8, 9, 128, 255] {
             self.led_by(1, tlv(2, &[subtype, 0x31]));
         }
@@ -223,7 +223,7 @@ impl Maker {
     }
 
     /// One of the first three TLVs is replaced.
-    fn led_by(&mut self, place: usize, replacement: Tlv) {
+    pub(super) fn led_by(&mut self, place: usize, replacement: Tlv) {
         let mut first = leading();
         first[place] = replacement;
         self.frame(lldpdu(&first, &[category(), model_number()]));

@@ -8,11 +8,11 @@ use Rattle.announcement.proofs.EncodeLaws.{encode-put}
 use Rattle.announcement.proofs.put_lldpdu.Statement.{statement}
 use Rattle.announcement.proofs.put_lldpdu.Tie as tie
 
-put-chassis-requires : tie.Need-put-chassis-requires
-put-chassis-requires c κs = search needs
+put-id-requires : tie.Need-put-id-requires
+put-id-requires c κs = search needs
 
-put-port-requires : tie.Need-put-port-requires
-put-port-requires c κs = search needs
+put-id-requires-2 : tie.Need-put-id-requires-2
+put-id-requires-2 c κs = search needs
 
 put-seconds-requires : tie.Need-put-seconds-requires
 put-seconds-requires c κs = search needs
@@ -33,16 +33,16 @@ returns c =
     let c3 = c2 .before .before .before .before in
     let c4 = c3 .before .before .before .before in
     let c5 = c4 .before .before .before .before in
-    let c6 = c5 .before .before .before .before .before in
+    let c6 = c5 .before .before .before .before .before .before in
     let a = c6 .args in
-    encode-put (countableOf (saidBy (now (a .text)) (a .d))) _ (c5 .put-chassis .ensures) (c4 .put-port .ensures) (c3 .put-seconds .ensures) (c2 .put-fields .ensures) (c1 .put-head .ensures)
+    encode-put (countableOf (saidBy (now (a .text)) (a .d))) _ (c5 .put-id .ensures) (c4 .put-id2 .ensures) (c3 .put-seconds .ensures) (c2 .put-fields .ensures) (c1 .put-head .ensures)
 
 pub put-lldpdu-spec : {M : Type 1} → statement M
 put-lldpdu-spec =
     tie.close
     (tie.spec
-    put-chassis-requires
-    put-port-requires
+    put-id-requires
+    put-id-requires-2
     put-seconds-requires
     put-fields-requires
     put-head-requires

@@ -9,15 +9,12 @@ use Rattle.hearing.proofs.ReplyLaws.{saying-known, saying-new}
 use Rattle.hearing.proofs.hear.Statement.{statement}
 use Rattle.hearing.proofs.hear.Tie as tie
 
-text-of-requires : tie.Need-text-of-requires
-text-of-requires c κs = search needs
-
 place-of-requires : tie.Need-place-of-requires
-place-of-requires c κs = fit-length _ (c .before .before .before .before .before .pre .0)
+place-of-requires c κs = fit-length _ (c .before .before .before .pre .0)
 
 hear-known-requires : tie.Need-hear-known-requires
 hear-known-requires c κs =
-    let o = c .before .before .before .before .before .before .before .before in
+    let o = c .before .before .before .before .before .before in
     (omega (arith, c .before .if1 .taken), (fit-length _ (o .pre .0), o .pre .1 .1 .0))
 
 same-length : tie.Need-same-length
@@ -26,10 +23,10 @@ same-length c = search needs
 returns : tie.Need-returns
 returns c =
     let n = c .before .before .before .before .before in
-    let o = n .before .before .before .before .before .before in
+    let o = n .before .before .before .before in
     let a = o .args in
     c .before .before .hear-known .ensures
-    ∙ saying-known (a .p) (a .l .now) (state (a .t) (a .buffer .now)) (o .pre .1 .1 .1) (n .before .text-of .ensures) (n .place-of .ensures) (omega (arith, c .before .before .before .before .if1 .taken))
+    ∙ saying-known (a .p) (a .l .now) (state (a .t) (a .buffer .now)) (o .pre .1 .1 .1) (n .place-of .ensures) (omega (arith, c .before .before .before .before .if1 .taken))
 
 hear-new-requires : tie.Need-hear-new-requires
 hear-new-requires c κs = search needs
@@ -40,16 +37,15 @@ same-length-2 c = search needs
 returns-2 : tie.Need-returns-2
 returns-2 c =
     let n = c .before .before .before .before .before in
-    let o = n .before .before .before .before .before .before in
+    let o = n .before .before .before .before in
     let a = o .args in
     c .before .before .hear-new .ensures
-    ∙ saying-new (a .p) (a .l .now) (state (a .t) (a .buffer .now)) (o .pre .1 .1 .1) (n .before .text-of .ensures) (n .place-of .ensures) (c .before .before .before .before .if1 .left)
+    ∙ saying-new (a .p) (a .l .now) (state (a .t) (a .buffer .now)) (o .pre .1 .1 .1) (n .place-of .ensures) (c .before .before .before .before .if1 .left)
 
 pub hear-spec : {M : Type 1} → statement M
 hear-spec =
     tie.close
     (tie.spec
-    text-of-requires
     place-of-requires
     hear-known-requires
     same-length

@@ -1,22 +1,30 @@
 -- `hearing::place_of` meets its contract: what is left to search gives the answer of the whole.
 -- A hit ends the search, a miss goes on (first-hit, first-miss, first-end).
-use Prim.Native.Nat.{_-_, _≤_}
+use Prim.Native.Nat.{ℕ, _-_, _≤_}
 use mathlib.Core.Path.{_≡_, refl, sym, _∙_}
+use mathlib.Core.List.{List}
 use native.Mathlib.Omega.{arith}
 use borrow.Author.Needs.{needs}
 use Rattle.tally.specs.Counts.{firstFrom}
 use Rattle.tally.proofs.CountsLaws.{first-hit, first-miss, first-end}
+use Rattle.ids.specs.Id.{idMeant}
+use Rattle.ids.specs.declared.IdPart.{IdPart}
+use Rattle.rules.specs.Identity.{Ident}
 use Rattle.numbers.specs.Sizes.{places}
 use Rattle.place.specs.State.{state, ident, isOf, find}
 use Rattle.hearing.proofs.place_of.Statement.{statement}
 use Rattle.hearing.proofs.place_of.Tie as tie
 
+-- the identity that is asked for
+abbrev asked : ℕ → List ℕ → IdPart → IdPart → Ident
+asked p text chassis port = ident p (idMeant text chassis) (idMeant text port)
+
 abbrev Inv-loop : tie.InvT-loop
-Inv-loop t buffer p chassis subtype id i₀ i =
-    (i ≤ places) × (find (state t buffer) (ident p chassis subtype id) ≡ firstFrom (isOf (state t buffer) (ident p chassis subtype id)) i (places - i))
+Inv-loop t buffer p text chassis port i₀ i =
+    (i ≤ places) × (find (state t buffer) (asked p text chassis port) ≡ firstFrom (isOf (state t buffer) (asked p text chassis port)) i (places - i))
 
 abbrev μ-loop : tie.MeasureT-loop
-μ-loop t buffer p chassis subtype id i₀ i = places - i
+μ-loop t buffer p text chassis port i₀ i = places - i
 
 loop-holds : tie.Need-loop-holds Inv-loop μ-loop
 unfolding find

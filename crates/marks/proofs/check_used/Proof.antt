@@ -40,9 +40,6 @@ returns-3 c =
 all-zero-requires : tie.Need-all-zero-requires
 all-zero-requires c κs = search needs
 
-text-of-requires : tie.Need-text-of-requires
-text-of-requires c κs = search needs
-
 identity-mark-requires : tie.Need-identity-mark-requires
 identity-mark-requires c κs = search needs
 
@@ -67,10 +64,10 @@ passed c =
 
 returns-5 : tie.Need-returns-5
 returns-5 c =
-    let four = c .before .before .before in
+    let four = c .before in
     let zero = four .before in
     let read = zero .before .before .before .before .before .before .before .before in
-    used-fit _ _ _ _ (read .outline-lldpdu .ensures) (passed (zero .before)) (sym (zero .all-zero .ensures) ∙ four .if4 .taken) (c .identity-mark .ensures) (c .before .text-of .ensures)
+    used-fit _ _ _ _ (read .outline-lldpdu .ensures) (passed (zero .before)) (sym (zero .all-zero .ensures) ∙ four .if4 .taken) (c .identity-mark .ensures)
 
 returns-6 : tie.Need-returns-6
 returns-6 c =
@@ -89,7 +86,6 @@ check-used-spec =
     returns-2
     returns-3
     all-zero-requires
-    text-of-requires
     identity-mark-requires
     returns-4
     returns-5

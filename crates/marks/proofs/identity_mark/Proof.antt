@@ -1,14 +1,18 @@
 -- `marks::identity_mark` meets its contract: two pairs of octets side by side.
 -- Each pair is below 65,536, so that the sum fits.
-use mathlib.Core.Path.{ap₂}
 use Prim.Native.Nat.{ℕ, _+_, _*_}
+use mathlib.Core.Path.{ap, ap₂, _∙_}
 use borrow.Author.Needs.{needs}
-use Rattle.marks.specs.Marks.{identityMark}
+use Rattle.octets.specs.Numbers.{pairOf}
+use Rattle.marks.specs.Marks.{lastOne, lastTwo, identityMark}
 use Rattle.marks.proofs.identity_mark.Statement.{statement}
 use Rattle.marks.proofs.identity_mark.Tie as tie
 
-array-read-pair : tie.Need-array-read-pair
-array-read-pair c = search needs
+text-of-requires : tie.Need-text-of-requires
+text-of-requires c κs = search needs
+
+last-one-requires : tie.Need-last-one-requires
+last-one-requires c κs = search needs
 
 pair-requires : tie.Need-pair-requires
 pair-requires c κs = search needs
@@ -18,6 +22,9 @@ cast-result c = search needs
 
 mul-result : tie.Need-mul-result
 mul-result c = search needs
+
+text-of-requires-2 : tie.Need-text-of-requires-2
+text-of-requires-2 c κs = search needs
 
 last-two-requires : tie.Need-last-two-requires
 last-two-requires c κs = search needs
@@ -30,16 +37,25 @@ add-result c = search needs
 
 returns : tie.Need-returns
 unfolding identityMark
-returns c = ap₂ (λ (a b : ℕ). a * 65536 + b) (c .before .pair .ensures) (c .last-two .ensures)
+returns c =
+    let two = c .before in
+    let front = two .before in
+    let one = front .before in
+    let read = one .before in
+    ap₂ (λ (a b : ℕ). a * 65536 + b)
+    (front .pair .ensures ∙ ap (pairOf (read .before .before .args .p)) (one .last-one .ensures ∙ ap lastOne (read .text-of .ensures)))
+    (c .last-two .ensures ∙ ap lastTwo (two .text-of2 .ensures))
 
 pub identity-mark-spec : {M : Type 1} → statement M
 identity-mark-spec =
     tie.close
     (tie.spec
-    array-read-pair
+    text-of-requires
+    last-one-requires
     pair-requires
     cast-result
     mul-result
+    text-of-requires-2
     last-two-requires
     cast-result-2
     add-result

@@ -1,14 +1,12 @@
 -- `naming::link_naming` meets its contract: a refusal alone, or the walk behind the first three TLVs.
--- A valid LLDPDU has a port ID of 2 to 256 octets (good-port), so the sum does not wrap.
-use Prim.Native.Nat.{ℕ, _+_}
+-- The walk begins at rest_place.
+use Prim.Native.Nat.{ℕ}
 use mathlib.Core.Path.{refl, sym, ap, _∙_}
-use native.Mathlib.Omega.{arith}
 use denote.Ref.{now}
 use borrow.Author.Needs.{needs}
 use lib.ListN.{drop}
 use Rattle.naming.specs.Naming.{firstNaming, namingOf}
 use Rattle.walk.specs.Walk.{walk}
-use Rattle.lldpdu.proofs.ExtentLaws.{good, good-port}
 use Rattle.naming.proofs.NamingLaws.{names-exactly}
 use Rattle.naming.proofs.link_naming.Statement.{statement}
 use Rattle.naming.proofs.link_naming.Tie as tie
@@ -22,11 +20,8 @@ enum-known-n c = search needs
 enum-told : tie.Need-enum-told
 enum-told c = search needs
 
-port-length-requires : tie.Need-port-length-requires
-port-length-requires c κs = search needs
-
-add-naming-from : tie.Need-add-naming-from
-add-naming-from c = omega (arith, good-port (good (now (c .before .before .before .before .before .args .s)) _ (sym (c .before .before .before .extent-of .ensures) ∙ c .before .enum-told .given .1)), c .port-length .ensures)
+rest-place-requires : tie.Need-rest-place-requires
+rest-place-requires c κs = search needs
 
 naming-from-requires : tie.Need-naming-from-requires
 naming-from-requires c κs = search needs
@@ -45,7 +40,7 @@ returns-2 c =
     let a = c .before .before .before .before .before .before .args .address in
     names-exactly s a
     (c .naming-from .ensures
-    ∙ ap (λ (p : ℕ). firstNaming a (walk (drop (15 + p) s) 0 (15 + p) .tlvs)) (c .before .port-length .ensures)
+    ∙ ap (λ (p : ℕ). firstNaming a (walk (drop p s) 0 p .tlvs)) (c .before .rest-place .ensures)
     ∙ sym (rw (sym (c .before .before .before .before .extent-of .ensures) ∙ c .before .before .enum-told .given .1)))
 
 pub link-naming-spec : {M : Type 1} → statement M
@@ -55,8 +50,7 @@ link-naming-spec =
     extent-of-requires
     enum-known-n
     enum-told
-    port-length-requires
-    add-naming-from
+    rest-place-requires
     naming-from-requires
     returns
     returns-2)

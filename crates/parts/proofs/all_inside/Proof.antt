@@ -1,92 +1,100 @@
--- `parts::all_inside` meets its contract: the eight parts, front to back.
+-- `parts::all_inside` meets its contract: nine tests, front to back.
 -- One test that fails decides (all-fails of TestsLaws); where all pass, the last return cites them.
+use mathlib.Core.List.{List}
+use mathlib.Core.Bool.{Bool}
 use mathlib.Core.Path.{sym, _∙_}
 use borrow.Author.Tests.{not-true, not-false}
 use borrow.Author.Needs.{needs}
 use Rattle.tally.proofs.TestsLaws.{all-fails, both-end}
-use Rattle.parts.specs.Inside.{partRules, listInside, allInside}
+use Rattle.parts.specs.Inside.{partRules, allInside}
 use Rattle.parts.proofs.all_inside.Statement.{statement}
 use Rattle.parts.proofs.all_inside.Tie as tie
+
+-- the rules that are asked
+abbrev asked : tie.Start → List Bool
+asked c = partRules (c .args .n) (c .args .d)
 
 part-inside-requires : tie.Need-part-inside-requires
 part-inside-requires c κs = search needs
 
 returns : tie.Need-returns
 unfolding allInside
-returns c = sym (all-fails (partRules (c .before .before .args .n) (c .before .before .args .d)) 0 (sym (c .before .part-inside .ensures) ∙ not-true _ (c .if1 .taken)))
+returns c = sym (all-fails (asked (c .before .before .before .before)) 0 (sym (c .before .part-inside .ensures) ∙ not-true _ (c .if1 .taken)))
 
 part-inside-requires-2 : tie.Need-part-inside-requires-2
 part-inside-requires-2 c κs = search needs
 
 returns-2 : tie.Need-returns-2
 unfolding allInside
-returns-2 c = sym (all-fails (partRules (c .before .before .before .before .args .n) (c .before .before .before .before .args .d)) 1 (sym (c .before .part-inside2 .ensures) ∙ not-true _ (c .if2 .taken)))
+returns-2 c = sym (all-fails (asked (c .before .before .before .before .before .before)) 1 (sym (c .before .part-inside2 .ensures) ∙ not-true _ (c .if2 .taken)))
 
 part-inside-requires-3 : tie.Need-part-inside-requires-3
 part-inside-requires-3 c κs = search needs
 
 returns-3 : tie.Need-returns-3
 unfolding allInside
-returns-3 c = sym (all-fails (partRules (c .before .before .before .before .before .before .args .n) (c .before .before .before .before .before .before .args .d)) 2 (sym (c .before .part-inside3 .ensures) ∙ not-true _ (c .if3 .taken)))
+returns-3 c = sym (all-fails (asked (c .before .before .before .before .before .before .before .before)) 2 (sym (c .before .part-inside3 .ensures) ∙ not-true _ (c .if3 .taken)))
 
 part-inside-requires-4 : tie.Need-part-inside-requires-4
 part-inside-requires-4 c κs = search needs
 
 returns-4 : tie.Need-returns-4
 unfolding allInside
-returns-4 c = sym (all-fails (partRules (c .before .before .before .before .before .before .before .before .args .n) (c .before .before .before .before .before .before .before .before .args .d)) 3 (sym (c .before .part-inside4 .ensures) ∙ not-true _ (c .if4 .taken)))
+returns-4 c = sym (all-fails (asked (c .before .before .before .before .before .before .before .before .before .before)) 3 (sym (c .before .part-inside4 .ensures) ∙ not-true _ (c .if4 .taken)))
 
 part-inside-requires-5 : tie.Need-part-inside-requires-5
 part-inside-requires-5 c κs = search needs
 
 returns-5 : tie.Need-returns-5
 unfolding allInside
-returns-5 c = sym (all-fails (partRules (c .before .before .before .before .before .before .before .before .before .before .args .n) (c .before .before .before .before .before .before .before .before .before .before .args .d)) 4 (sym (c .before .part-inside5 .ensures) ∙ not-true _ (c .if5 .taken)))
+returns-5 c = sym (all-fails (asked (c .before .before .before .before .before .before .before .before .before .before .before .before)) 4 (sym (c .before .part-inside5 .ensures) ∙ not-true _ (c .if5 .taken)))
 
 part-inside-requires-6 : tie.Need-part-inside-requires-6
 part-inside-requires-6 c κs = search needs
 
 returns-6 : tie.Need-returns-6
 unfolding allInside
-returns-6 c = sym (all-fails (partRules (c .before .before .before .before .before .before .before .before .before .before .before .before .args .n) (c .before .before .before .before .before .before .before .before .before .before .before .before .args .d)) 5 (sym (c .before .part-inside6 .ensures) ∙ not-true _ (c .if6 .taken)))
+returns-6 c = sym (all-fails (asked (c .before .before .before .before .before .before .before .before .before .before .before .before .before .before)) 5 (sym (c .before .part-inside6 .ensures) ∙ not-true _ (c .if6 .taken)))
+
+part-inside-requires-7 : tie.Need-part-inside-requires-7
+part-inside-requires-7 c κs = search needs
+
+returns-7 : tie.Need-returns-7
+unfolding allInside
+returns-7 c = sym (all-fails (asked (c .before .before .before .before .before .before .before .before .before .before .before .before .before .before .before .before)) 6 (sym (c .before .part-inside7 .ensures) ∙ not-true _ (c .if7 .taken)))
 
 link-inside-requires : tie.Need-link-inside-requires
 link-inside-requires c κs = search needs
 
-returns-7 : tie.Need-returns-7
+returns-8 : tie.Need-returns-8
 unfolding allInside
-returns-7 c = sym (all-fails (partRules (c .before .before .before .before .before .before .before .before .before .before .before .before .before .before .args .n) (c .before .before .before .before .before .before .before .before .before .before .before .before .before .before .args .d)) 6 (sym (c .before .link-inside .ensures) ∙ not-true _ (c .if7 .taken)))
+returns-8 c = sym (all-fails (asked (c .before .before .before .before .before .before .before .before .before .before .before .before .before .before .before .before .before .before)) 7 (sym (c .before .link-inside .ensures) ∙ not-true _ (c .if8 .taken)))
 
 list-inside-requires : tie.Need-list-inside-requires
 list-inside-requires c κs = search needs
 
-returns-8 : tie.Need-returns-8
+returns-9 : tie.Need-returns-9
 unfolding allInside
-returns-8 c =
-    let c1 = c .before in
-    let c2 = c1 .before in
-    let c3 = c2 .before in
-    let c4 = c3 .before in
-    let c5 = c4 .before in
-    let c6 = c5 .before in
-    let c7 = c6 .before in
-    let c8 = c7 .before in
-    let c9 = c8 .before in
-    let c10 = c9 .before in
-    let c11 = c10 .before in
-    let c12 = c11 .before in
-    let c13 = c12 .before in
-    let c14 = c13 .before in
-    let c15 = c14 .before in
+returns-9 c =
+    let c8 = c .before in
+    let c7 = c8 .before .before in
+    let c6 = c7 .before .before in
+    let c5 = c6 .before .before in
+    let c4 = c5 .before .before in
+    let c3 = c4 .before .before in
+    let c2 = c3 .before .before in
+    let c1 = c2 .before .before in
     rw (
-      sym (c14 .part-inside .ensures) ∙ not-false (c14 .part-inside .result) (c13 .if1 .left),
-      sym (c12 .part-inside2 .ensures) ∙ not-false (c12 .part-inside2 .result) (c11 .if2 .left),
-      sym (c10 .part-inside3 .ensures) ∙ not-false (c10 .part-inside3 .result) (c9 .if3 .left),
-      sym (c8 .part-inside4 .ensures) ∙ not-false (c8 .part-inside4 .result) (c7 .if4 .left),
-      sym (c6 .part-inside5 .ensures) ∙ not-false (c6 .part-inside5 .result) (c5 .if5 .left),
-      sym (c4 .part-inside6 .ensures) ∙ not-false (c4 .part-inside6 .result) (c3 .if6 .left),
-      sym (c2 .link-inside .ensures) ∙ not-false (c2 .link-inside .result) (c1 .if7 .left),
-    ) (c .list-inside .ensures ∙ sym (both-end (listInside (c15 .args .n) (c15 .args .d .list))))
+      sym (c1 .before .part-inside .ensures) ∙ not-false _ (c1 .if1 .left),
+      sym (c2 .before .part-inside2 .ensures) ∙ not-false _ (c2 .if2 .left),
+      sym (c3 .before .part-inside3 .ensures) ∙ not-false _ (c3 .if3 .left),
+      sym (c4 .before .part-inside4 .ensures) ∙ not-false _ (c4 .if4 .left),
+      sym (c5 .before .part-inside5 .ensures) ∙ not-false _ (c5 .if5 .left),
+      sym (c6 .before .part-inside6 .ensures) ∙ not-false _ (c6 .if6 .left),
+      sym (c7 .before .part-inside7 .ensures) ∙ not-false _ (c7 .if7 .left),
+      sym (c8 .before .link-inside .ensures) ∙ not-false _ (c8 .if8 .left),
+    )
+    (c .list-inside .ensures ∙ sym (both-end _))
 
 pub all-inside-spec : {M : Type 1} → statement M
 all-inside-spec =
@@ -104,7 +112,9 @@ all-inside-spec =
     returns-5
     part-inside-requires-6
     returns-6
-    link-inside-requires
+    part-inside-requires-7
     returns-7
+    link-inside-requires
+    returns-8
     list-inside-requires
-    returns-8)
+    returns-9)

@@ -1,15 +1,10 @@
--- `place::is_from` meets its contract: chassis, then subtype, then the octets of the port ID.
--- The outline tells all three (from-by).
-use mathlib.Core.Path.{_≡_, sym, ap, _∙_}
-use mathlib.Core.Bool.{true}
-use mathlib.Core.List.{List}
-use Prim.Native.Nat.{ℕ}
+-- `place::is_from` meets its contract: the chassis, then the port ID.
+-- The outline tells both (from-by).
+use mathlib.Core.Path.{_≡_, sym, _∙_}
 use denote.Ref.{now}
 use borrow.Author.Needs.{needs}
-use borrow.Author.Tests.{eq-eqb, ne-eqb}
 use Rattle.tally.proofs.TestsLaws.{both-end}
-use Rattle.octets.specs.Address.{sameOctets}
-use Rattle.place.specs.State.{isFrom}
+use Rattle.ids.specs.Id.{idMeant, sameId}
 use Rattle.place.proofs.WhoseLaws.{from-by}
 use Rattle.place.proofs.is_from.Statement.{statement}
 use Rattle.place.proofs.is_from.Tie as tie
@@ -17,56 +12,36 @@ use Rattle.place.proofs.is_from.Tie as tie
 outline-lldpdu-requires : tie.Need-outline-lldpdu-requires
 outline-lldpdu-requires c κs = search needs
 
-same-six-requires : tie.Need-same-six-requires
-same-six-requires c κs = search needs
+same-id-requires : tie.Need-same-id-requires
+same-id-requires c κs = search needs
 
-text-of-requires : tie.Need-text-of-requires
-text-of-requires c κs = search needs
+same-id-requires-2 : tie.Need-same-id-requires-2
+same-id-requires-2 c κs = search needs
 
-same-requires : tie.Need-same-requires
-same-requires c κs = search needs
-
--- the chassis is the one asked for
-chassis-same : (c : tie.Then1) → sameOctets (c .before .before .before .outline-lldpdu .result .chassis) (c .before .before .before .before .before .before .args .chassis) ≡ true
-chassis-same c = sym (c .before .same-six .ensures) ∙ c .if1 .taken
+-- what the first comparison tells: the chassis of the outline against the one asked for
+chassis-told : (c : tie.After-same-id)
+    → c .same-id .result
+    ≡ sameId
+    (idMeant (now (c .before .before .before .before .args .l)) (c .before .outline-lldpdu .result .chassis))
+    (idMeant (now (c .before .before .before .before .args .text)) (c .before .before .before .before .args .chassis))
+chassis-told c = c .same-id .ensures
 
 returns : tie.Need-returns
 returns c =
-    let two = c .before .before in
-    let one = two .before .before in
-    let read = one .before .before .before in
+    let first = c .before .before in
+    let read = first .before in
     let a = read .before .before .before .args in
-    let told : c .same .result ≡ isFrom (now (a .l)) (a .chassis) (a .subtype) (now (a .id)) =
-    c .same .ensures
-    ∙ ap (λ (i : List ℕ). sameOctets i (now (a .id))) (c .before .text-of .ensures)
-    ∙ sym (from-by (now (a .l)) (a .chassis) (a .subtype) (now (a .id)) (read .outline-lldpdu .ensures)
-    ∙ rw (chassis-same one, eq-eqb (read .outline-lldpdu .result .subtype) (a .subtype) (two .if2 .taken), both-end)) in
+    let told : c .same-id2 .result ≡ sameId (idMeant (now (a .l)) (read .outline-lldpdu .result .port)) (idMeant (now (a .text)) (a .port)) = c .same-id2 .ensures in
     told
+    ∙ sym (from-by (now (a .l)) (idMeant (now (a .text)) (a .chassis)) (idMeant (now (a .text)) (a .port)) (read .outline-lldpdu .ensures)
+    ∙ rw (sym (chassis-told first) ∙ c .before .if1 .taken, both-end))
 
 returns-2 : tie.Need-returns-2
 returns-2 c =
-    let one = c .before .before in
-    let read = one .before .before .before in
+    let read = c .before .before in
     let a = read .before .before .before .args in
-    sym (from-by (now (a .l)) (a .chassis) (a .subtype) (now (a .id)) (read .outline-lldpdu .ensures)
-    ∙ rw (chassis-same one, ne-eqb (read .outline-lldpdu .result .subtype) (a .subtype) (c .if2 .left)))
-
-returns-3 : tie.Need-returns-3
-returns-3 c =
-    let six = c .before in
-    let read = six .before .before in
-    let a = read .before .before .before .args in
-    sym (from-by (now (a .l)) (a .chassis) (a .subtype) (now (a .id)) (read .outline-lldpdu .ensures)
-    ∙ rw (sym (six .same-six .ensures) ∙ c .if1 .left))
+    sym (from-by (now (a .l)) (idMeant (now (a .text)) (a .chassis)) (idMeant (now (a .text)) (a .port)) (read .outline-lldpdu .ensures)
+    ∙ rw (sym (chassis-told (c .before)) ∙ c .if1 .left))
 
 pub is-from-spec : {M : Type 1} → statement M
-is-from-spec =
-    tie.close
-    (tie.spec
-    outline-lldpdu-requires
-    same-six-requires
-    text-of-requires
-    same-requires
-    returns
-    returns-2
-    returns-3)
+is-from-spec = tie.close (tie.spec outline-lldpdu-requires same-id-requires same-id-requires-2 returns returns-2)

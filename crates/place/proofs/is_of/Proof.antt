@@ -5,6 +5,7 @@ use mathlib.Core.List.{List}
 use Prim.Native.Nat.{ℕ}
 use denote.Ref.{now}
 use borrow.Author.Needs.{needs}
+use Rattle.ids.specs.Id.{idMeant}
 use Rattle.place.specs.State.{at, state, isFrom}
 use Rattle.place.proofs.ThereLaws.{past-free}
 use Rattle.place.proofs.WhoseLaws.{of-free, of-other, of-from}
@@ -15,7 +16,7 @@ returns : tie.Need-returns
 returns c =
     let a = c .before .before .before .args in
     let s = state (a .t1) (now (a .buffer)) in
-    of-free s (a .p) (a .chassis) (a .subtype) (now (a .id)) (a .i) (past-free s (a .i) (search needs) (c .if1 .taken))
+    of-free s (a .p) (idMeant (now (a .text)) (a .chassis)) (idMeant (now (a .text)) (a .port)) (a .i) (past-free s (a .i) (search needs) (c .if1 .taken))
 
 mul-if2 : tie.Need-mul-if2
 mul-if2 c = search needs
@@ -27,7 +28,7 @@ returns-2 : tie.Need-returns-2
 unfolding at
 returns-2 c =
     let a = c .before .before .before .before .before .args in
-    of-free (state (a .t1) (now (a .buffer))) (a .p) (a .chassis) (a .subtype) (now (a .id)) (a .i) (c .if2 .taken)
+    of-free (state (a .t1) (now (a .buffer))) (a .p) (idMeant (now (a .text)) (a .chassis)) (idMeant (now (a .text)) (a .port)) (a .i) (c .if2 .taken)
 
 element-copy-out-if3 : tie.Need-element-copy-out-if3
 element-copy-out-if3 c = search needs
@@ -36,7 +37,7 @@ returns-3 : tie.Need-returns-3
 unfolding at
 returns-3 c =
     let a = c .before .before .before .before .before .before .before .args in
-    of-other (state (a .t1) (now (a .buffer))) (a .p) (a .chassis) (a .subtype) (now (a .id)) (a .i) (c .if3 .taken)
+    of-other (state (a .t1) (now (a .buffer))) (a .p) (idMeant (now (a .text)) (a .chassis)) (idMeant (now (a .text)) (a .port)) (a .i) (c .if3 .taken)
 
 lldpdu-at-requires : tie.Need-lldpdu-at-requires
 lldpdu-at-requires c κs = search needs
@@ -51,8 +52,8 @@ returns-4 c =
     let two = three .before .before in
     let a = two .before .before .before .before .before .args in
     c .is-from .ensures
-    ∙ ap (λ (l : List ℕ). isFrom l (a .chassis) (a .subtype) (now (a .id))) (c .before .lldpdu-at .ensures)
-    ∙ of-from (state (a .t1) (now (a .buffer))) (a .p) (a .chassis) (a .subtype) (now (a .id)) (a .i) (two .if2 .left) (three .if3 .left)
+    ∙ ap (λ (l : List ℕ). isFrom l (idMeant (now (a .text)) (a .chassis)) (idMeant (now (a .text)) (a .port))) (c .before .lldpdu-at .ensures)
+    ∙ of-from (state (a .t1) (now (a .buffer))) (a .p) (idMeant (now (a .text)) (a .chassis)) (idMeant (now (a .text)) (a .port)) (a .i) (two .if2 .left) (three .if3 .left)
 
 pub is-of-spec : {M : Type 1} → statement M
 is-of-spec =

@@ -1,41 +1,9 @@
 -- `reading::description_at` meets its contract: each field by what its own function ensures.
 -- Nothing more is needed.
-use Prim.Native.Nat.{ℕ}
-use mathlib.Core.Path.{_≡_, refl}
-use mathlib.Core.List.{List}
-use denote.Ref.{now}
+use mathlib.Core.Path.{refl}
 use borrow.Author.Needs.{needs}
-use lib.ListN.{getD}
 use Rattle.reading.proofs.description_at.Statement.{statement}
 use Rattle.reading.proofs.description_at.Tie as tie
-
--- the subtype's place with its number, so that a wrong one shows
-subtype-at : (s : List ℕ) {x : ℕ} → x ≡ getD s 11 0 → x ≡ getD s 11 0
-subtype-at s e = e
-
-six-requires : tie.Need-six-requires
-six-requires c κs = search needs
-
-octet-requires : tie.Need-octet-requires
-octet-requires c κs = search needs
-
-sub-t7 : tie.Need-sub-t7
-sub-t7 c = search needs
-
-add-octet : tie.Need-add-octet
-add-octet c = search needs
-
-octet-requires-2 : tie.Need-octet-requires-2
-octet-requires-2 c κs = search needs
-
-add-octet-2 : tie.Need-add-octet-2
-add-octet-2 c = search needs
-
-octet-requires-3 : tie.Need-octet-requires-3
-octet-requires-3 c κs = search needs
-
-pair-requires : tie.Need-pair-requires
-pair-requires c κs = search needs
 
 element-copy-out-part-at : tie.Need-element-copy-out-part-at
 element-copy-out-part-at c = search needs
@@ -82,11 +50,6 @@ list-at-requires c κs = search needs
 returns : tie.Need-returns
 returns c =
     rw (
-      c .before .before .before .before .before .before .before .before .before .before .before .before .before .before .before .before .before .before .six .ensures,
-      subtype-at (now (c .before .before .before .before .before .before .before .before .before .before .before .before .before .before .before .before .before .before .before .before .args .s)) (c .before .before .before .before .before .before .before .before .before .before .before .before .before .before .before .before .before .octet .ensures),
-      c .before .before .before .before .before .before .before .before .before .before .before .before .before .before .pair .ensures,
-      c .before .before .before .before .before .before .before .before .before .before .before .before .before .before .before .before .octet2 .ensures,
-      c .before .before .before .before .before .before .before .before .before .before .before .before .before .before .before .octet3 .ensures,
       c .before .before .before .before .before .before .before .before .before .before .before .before .part-at .ensures,
       c .before .before .before .before .before .before .before .before .before .before .part-at2 .ensures,
       c .before .before .before .before .before .before .before .before .part-at3 .ensures,
@@ -101,14 +64,6 @@ pub description-at-spec : {M : Type 1} → statement M
 description-at-spec =
     tie.close
     (tie.spec
-    six-requires
-    octet-requires
-    sub-t7
-    add-octet
-    octet-requires-2
-    add-octet-2
-    octet-requires-3
-    pair-requires
     element-copy-out-part-at
     part-at-requires
     element-copy-out-part-at-2

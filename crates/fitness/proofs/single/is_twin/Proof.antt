@@ -7,7 +7,7 @@ use denote.Ref.{now}
 use borrow.Author.Needs.{needs}
 use Rattle.rules.specs.Identity.{Ident}
 use Rattle.rules.specs.Events.{whose}
-use Rattle.place.specs.State.{at, state, ident, said, isOf}
+use Rattle.place.specs.State.{at, state, said, isOf}
 use Rattle.place.proofs.WhoseLaws.{outline-ident}
 use Rattle.fitness.proofs.single.is_twin.Statement.{statement}
 use Rattle.fitness.proofs.single.is_twin.Tie as tie
@@ -21,25 +21,19 @@ outline-lldpdu-requires c κs = search needs
 element-copy-out-is-of : tie.Need-element-copy-out-is-of
 element-copy-out-is-of c = search needs
 
-text-of-requires : tie.Need-text-of-requires
-text-of-requires c κs = search needs
-
 is-of-requires : tie.Need-is-of-requires
 is-of-requires c κs = search needs
 
 returns : tie.Need-returns
 unfolding at
 returns c =
-    let part = c .before in
-    let read = part .before .before .before in
+    let read = c .before .before in
     let kept = read .before in
     let a = kept .before .before .args in
     let s = state (a .t1) (now (a .buffer)) in
     let p = at s (a .i) .port in
-    let o = read .outline-lldpdu .result in
     let l = now (kept .lldpdu-at .result) in
     c .is-of .ensures
-    ∙ ap (λ (i : List ℕ). isOf s (ident p (o .chassis) (o .subtype) i) (a .j)) (part .text-of .ensures)
     ∙ ap (λ (w : Ident). isOf s w (a .j)) (outline-ident p l (read .outline-lldpdu .ensures))
     ∙ ap (λ (k : List ℕ). isOf s (whose p (said k)) (a .j)) (kept .lldpdu-at .ensures)
 
@@ -50,6 +44,5 @@ is-twin-spec =
     lldpdu-at-requires
     outline-lldpdu-requires
     element-copy-out-is-of
-    text-of-requires
     is-of-requires
     returns)

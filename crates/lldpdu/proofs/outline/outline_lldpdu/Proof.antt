@@ -1,87 +1,94 @@
--- `lldpdu::outline::outline_lldpdu` meets its contract: a refusal alone, or each field by the octets read.
--- A valid LLDPDU has a port ID of 2 to 256 octets (good-port), so no sum wraps.
-use mathlib.Core.Path.{refl, sym, _∙_}
+-- `lldpdu::outline::outline_lldpdu` meets its contract: TLV 1, then what is behind it.
+-- Where that begins is behind-first of ExtentLaws.
+use Prim.Native.Nat.{ℕ, _+_, _≤_, _<_}
+use mathlib.Core.Path.{_≡_, sym, _∙_}
+use mathlib.Core.List.{List}
+use mathlib.Core.Bool.{Bool}
 use native.Mathlib.Omega.{arith}
 use denote.Ref.{now}
 use borrow.Author.Needs.{needs}
-use Rattle.lldpdu.specs.Outline.{outlineOf}
-use Rattle.lldpdu.proofs.ExtentLaws.{good, good-port}
+use Rattle.tally.specs.Tests.{pick}
+use Rattle.walk.specs.declared.Extent.the-variants.{Refused}
+use Rattle.lldpdu.specs.Extent.{lengthAt, portPlace, isChassis, behindChassis, extentOf}
+use Rattle.lldpdu.specs.Outline.{outlineAt, outlineOf}
+use Rattle.lldpdu.proofs.ExtentLaws.{need-short, need-whole, there, behind-first}
 use Rattle.lldpdu.proofs.outline.outline_lldpdu.Statement.{statement}
 use Rattle.lldpdu.proofs.outline.outline_lldpdu.Tie as tie
 
-extent-of-requires : tie.Need-extent-of-requires
-extent-of-requires c κs = search needs
+head-at-requires : tie.Need-head-at-requires
+head-at-requires c κs = search needs
 
-enum-known-n : tie.Need-enum-known-n
-enum-known-n c = search needs
+enum-told : tie.Need-enum-told
+enum-told c = search needs
 
 refused-outline-requires : tie.Need-refused-outline-requires
 refused-outline-requires c κs = search needs
 
-enum-known-length : tie.Need-enum-known-length
-enum-known-length c = search needs
+enum-known-kind : tie.Need-enum-known-kind
+enum-known-kind c = search needs
 
-port-length-requires : tie.Need-port-length-requires
-port-length-requires c κs = search needs
+is-chassis-requires : tie.Need-is-chassis-requires
+is-chassis-requires c κs =
+    let head = c .before .before .before in
+    there (now (head .before .before .args .s)) 0 (sym (head .head-at .ensures) ∙ c .before .kind .given .1)
 
-six-requires : tie.Need-six-requires
-six-requires c κs = search needs
+-- where TLV 2 begins
+abbrev len : tie.Then1 → ℕ
+len c = c .before .before .before .kind .given .0 .1 .0
 
-octet-requires : tie.Need-octet-requires
-octet-requires c κs = search needs
+abbrev octets : tie.Then1 → List ℕ
+octets c = now (c .before .before .before .before .before .before .before .args .s)
 
-sub-t10 : tie.Need-sub-t10
-sub-t10 c = omega (arith, good-port (good (now (c .before .before .before .before .before .before .before .before .args .s)) _ (sym (c .before .before .before .before .before .before .extent-of .ensures) ∙ c .before .before .before .before .length .given .1)), c .before .before .port-length .ensures)
+behind : (c : tie.Then1) → (2 + len c ≡ portPlace (octets c)) × ((1 ≤ lengthAt (octets c) 0) × (2 + len c < 1000))
+behind c =
+    let whole = c .before .before .before in
+    behind-first (octets c) (sym (whole .before .before .head-at .ensures) ∙ whole .kind .given .1) (sym (c .before .is-chassis .ensures) ∙ c .if1 .taken)
 
-add-octet : tie.Need-add-octet
-add-octet c = omega (arith, good-port (good (now (c .before .before .before .before .before .before .before .before .args .s)) _ (sym (c .before .before .before .before .before .before .extent-of .ensures) ∙ c .before .before .before .before .length .given .1)), c .before .before .port-length .ensures)
+add-behind-chassis : tie.Need-add-behind-chassis
+add-behind-chassis c = omega (arith, behind c)
 
-octet-requires-2 : tie.Need-octet-requires-2
-octet-requires-2 c κs = search needs
+behind-chassis-requires : tie.Need-behind-chassis-requires
+behind-chassis-requires c κs = behind c
 
-add-octet-2 : tie.Need-add-octet-2
-add-octet-2 c = omega (arith, good-port (good (now (c .before .before .before .before .before .before .before .before .before .args .s)) _ (sym (c .before .before .before .before .before .before .before .extent-of .ensures) ∙ c .before .before .before .before .before .length .given .1)), c .before .before .before .port-length .ensures)
-
-octet-requires-3 : tie.Need-octet-requires-3
-octet-requires-3 c κs = search needs
-
-pair-requires : tie.Need-pair-requires
-pair-requires c κs = search needs
+refused-outline-requires-2 : tie.Need-refused-outline-requires-2
+refused-outline-requires-2 c κs = search needs
 
 returns : tie.Need-returns
-unfolding outlineOf
-returns c = c .refused-outline .ensures ∙ sym (rw (sym (c .before .before .before .before .extent-of .ensures) ∙ c .before .before .n .given .1))
+unfolding outlineOf extentOf
+returns c =
+    let told = c .before in
+    let head = told .before .before in
+    c .refused-outline .ensures ∙ need-short _ (head .head-at .ensures) _ _ (told .enum-told .given .1)
+
+-- the test of TLV 1 decides
+judged : (c : tie.After-is-chassis) {b : Bool} → c .is-chassis .result ≡ b
+    → outlineAt (pick b (behindChassis (now (c .before .before .before .before .before .before .args .s))) (Refused 4)) (now (c .before .before .before .before .before .before .args .s))
+    ≡ outlineOf (now (c .before .before .before .before .before .before .args .s))
+unfolding outlineOf extentOf
+judged c i =
+    let whole = c .before .before in
+    let head = whole .before .before in
+    let s = now (head .before .before .args .s) in
+    need-whole s (head .head-at .ensures) (λ (kind len : ℕ). isChassis s kind) (behindChassis s) (whole .kind .given .1) (c .is-chassis .ensures) i
 
 returns-2 : tie.Need-returns-2
-unfolding outlineOf
-returns-2 c =
-    rw (
-      sym (c .before .before .before .before .before .before .before .before .before .extent-of .ensures) ∙ c .before .before .before .before .before .before .before .length .given .1,
-      c .pair .ensures,
-      c .before .before .octet2 .ensures,
-      c .before .octet3 .ensures,
-      c .before .before .before .octet .ensures,
-      c .before .before .before .before .six .ensures,
-      c .before .before .before .before .before .port-length .ensures,
-    )
-    refl
+returns-2 c = c .behind-chassis .ensures ∙ judged (c .before .before) (c .before .if1 .taken)
+
+returns-3 : tie.Need-returns-3
+returns-3 c = c .refused-outline2 .ensures ∙ judged (c .before .before) (c .before .if1 .left)
 
 pub outline-lldpdu-spec : {M : Type 1} → statement M
 outline-lldpdu-spec =
     tie.close
     (tie.spec
-    extent-of-requires
-    enum-known-n
+    head-at-requires
+    enum-told
     refused-outline-requires
-    enum-known-length
-    port-length-requires
-    six-requires
-    octet-requires
-    sub-t10
-    add-octet
-    octet-requires-2
-    add-octet-2
-    octet-requires-3
-    pair-requires
+    enum-known-kind
+    is-chassis-requires
+    add-behind-chassis
+    behind-chassis-requires
+    refused-outline-requires-2
     returns
-    returns-2)
+    returns-2
+    returns-3)
