@@ -6,6 +6,7 @@ mod places;
 mod plan;
 mod random;
 mod rules;
+mod system;
 
 use crate::frames::{hex, reading_text, two_octets};
 use crate::reader::{read_lldpdu, Refusal};
@@ -33,6 +34,8 @@ pub fn cases() -> Vec<Case> {
     maker.rules();
     maker.places();
     maker.random();
+    maker.system_fields();
+    maker.random_of_systems();
     maker.cases
 }
 
@@ -54,8 +57,18 @@ pub fn case_file(cases: &[Case]) -> Vec<u8> {
             file.extend(part_octets(part));
         }
         let link = description.link.as_ref();
-        file.extend(flagged(link.map(|link| [link.interface, link.number, link.addresses])));
-        file.extend(flagged(description.list.map(|addresses| [addresses])));
+        let parts = link.map(|link| [link.interface, link.number, link.addresses]);
+        file.extend(flagged(parts.map(|parts| parts.map(part_octets))));
+        file.extend(flagged(description.list.map(|addresses| [part_octets(addresses)])));
+        file.extend(part_octets(description.system_name));
+        file.extend(part_octets(description.system_description));
+        let sets = description
+            .capabilities
+            .map(|capabilities| [capabilities.can, capabilities.enabled].map(u16::to_be_bytes));
+        file.extend(flagged(sets));
+        // All four slots are in the file, whatever the count is.
+        file.extend(description.management.count.to_be_bytes());
+        file.extend(description.management.slots.map(part_octets).as_flattened());
         file.extend(two_octets(*room));
         file.extend(two_octets(text.len()));
         file.extend(text);
@@ -67,11 +80,11 @@ fn part_octets(part: Part) -> [u8; 16] {
     ((u128::from(part.start) << 64) | u128::from(part.len)).to_be_bytes()
 }
 
-/// One octet that tells whether the parts are present, then the parts, or as many zeros.
-fn flagged<const N: usize>(parts: Option<[Part; N]>) -> Vec<u8> {
-    match parts {
-        Some(parts) => [vec![1], parts.map(part_octets).concat()].concat(),
-        None => vec![0; 1 + 16 * N],
+/// One octet that tells whether the numbers are present, then the numbers, or as many zeros.
+fn flagged<const WIDTH: usize, const N: usize>(numbers: Option<[[u8; WIDTH]; N]>) -> Vec<u8> {
+    match numbers {
+        Some(numbers) => [&[1], numbers.as_flattened()].concat(),
+        None => vec![0; 1 + WIDTH * N],
     }
 }
 
@@ -114,7 +127,7 @@ fn written_again(read: &Plan) -> Vec<u8> {
 mod tests {
     use super::*;
     use crate::frames::blocks::{headed, EVERYONE, LLDP, NEAREST, SOUGHT};
-    use crate::reader::{read_frame, Reading};
+    use crate::reader::{read_frame, Capabilities, Reading};
 
     /// The cases that are written, with the octets and their reading.
     fn written() -> Vec<(Case, Vec<u8>, Reading)> {
@@ -126,12 +139,40 @@ mod tests {
         cases().into_iter().filter_map(written).collect()
     }
 
-    /// A record has 186 octets besides its text, whatever is absent.
+    /// A record has 295 octets besides its text, whatever is absent.
     #[test]
     fn the_case_file_has_records_of_known_length() {
         let cases = cases();
         let texts: usize = cases.iter().map(|case| case.text.len()).sum();
-        assert_eq!(case_file(&cases).len(), 186 * cases.len() + texts);
+        assert_eq!(case_file(&cases).len(), 295 * cases.len() + texts);
+    }
+
+    /// Each number stands where it is looked for; the unused slots are there as well.
+    #[test]
+    fn the_head_of_a_record() {
+        let part = |start, len| Part { start, len };
+        let mut case = cases().remove(0);
+        case.description.system_name = part(0x0102, 0x03);
+        case.description.system_description = part(0x0405, 0x06);
+        case.description.capabilities = Some(Capabilities { can: 0x0708, enabled: 0x090A });
+        case.description.management.count = u64::MAX - 1;
+        case.description.management.slots = [part(1, 9), part(2, 10), part(3, 11), part(4, 12)];
+        case.room = 0x0B0C;
+        case.text = b"text".to_vec();
+        let file = case_file(&[case.clone()]);
+        let number = |at: usize, octets: usize| {
+            file[at..at + octets].iter().fold(0u64, |number, &octet| number << 8 | u64::from(octet))
+        };
+        assert_eq!([182, 190].map(|at| number(at, 8)), [0x0102, 0x03]);
+        assert_eq!([198, 206].map(|at| number(at, 8)), [0x0405, 0x06]);
+        assert_eq!([number(214, 1), number(215, 2), number(217, 2)], [1, 0x0708, 0x090A]);
+        assert_eq!(number(219, 8), u64::MAX - 1);
+        assert_eq!([227, 243, 259, 275].map(|at| number(at, 8)), [1, 2, 3, 4]);
+        assert_eq!([235, 251, 267, 283].map(|at| number(at, 8)), [9, 10, 11, 12]);
+        assert_eq!([291, 293].map(|at| number(at, 2)), [0x0B0C, 4]);
+        assert_eq!(file[295..], *b"text");
+        case.description.capabilities = None;
+        assert_eq!(case_file(&[case])[214..219], [0; 5]);
     }
 
     /// A rule that hardly ever decides would hardly be compared.
@@ -144,7 +185,33 @@ mod tests {
         println!("wrote, 9, 10: {counts:?}");
         assert!(counts[0] >= 300 && counts[1] >= 150 && counts[2] >= 60);
         assert_eq!(counts.iter().sum::<usize>(), cases().len());
-        assert!((900..=1200).contains(&cases().len()));
+        assert!((1400..=9900).contains(&cases().len()));
+    }
+
+    /// Each system field is written, at its shortest and at its longest, and left out (W1).
+    #[test]
+    fn no_system_field_is_rare() {
+        let written = written();
+        let announced = || written.iter().map(|(_, _, read)| read).filter(|read| read.htip);
+        let count =
+            |wanted: &dyn Fn(&Reading) -> bool| announced().filter(|read| wanted(read)).count();
+        let mut counts = vec![
+            count(&|read| read.capabilities.is_none()),
+            count(&|read| read.capabilities == Some(Capabilities { can: 0, enabled: 0 })),
+            count(&|read| read.capabilities.is_some_and(|sets| sets.can > 0 && sets.enabled > 0)),
+        ];
+        for addresses in 0..=4 {
+            counts.push(count(&|read| read.management.len() == addresses));
+        }
+        for length in [0, 1, 255] {
+            counts.push(count(&|read| read.system_name.len() == length));
+            counts.push(count(&|read| read.system_description.len() == length));
+        }
+        for length in [9, 167] {
+            counts.push(count(&|read| read.management.iter().any(|octets| octets.len() == length)));
+        }
+        println!("{counts:?}");
+        assert!(counts.iter().all(|&count| count >= 5));
     }
 
     /// Each kind of chassis (L3) is announced, and says goodbye.
@@ -171,7 +238,8 @@ mod tests {
         }
     }
 
-    /// Strings, and tables that are absent, empty or full, come back as they were (W6, A3).
+    /// Strings, system fields, and tables that are absent, empty or full come back as they were
+    /// (W6, A3).
     #[test]
     fn what_is_written_reads_back_as_the_description() {
         for (case, lldpdu, reading) in written() {

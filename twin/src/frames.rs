@@ -6,11 +6,12 @@ mod chassis;
 pub(crate) mod maker;
 mod random;
 mod rules;
+mod system;
 
 use crate::id::Id;
 use crate::reader::{
-    name_link, outline_frame, outline_lldpdu, read_frame, read_lldpdu, Address, Naming, Outline,
-    Reading, Refusal,
+    name_link, outline_frame, outline_lldpdu, read_frame, read_lldpdu, Address, Capabilities,
+    Naming, Outline, Reading, Refusal,
 };
 use crate::rng::{self, Rng};
 use blocks::HEADER;
@@ -33,7 +34,9 @@ pub struct Case {
 pub fn cases() -> Vec<Case> {
     let mut maker = Maker { rng: Rng::new(rng::FRAMES), cases: vec![] };
     maker.rules();
-    maker.random();
+    maker.random(Maker::random_later, 160, 140);
+    maker.system_fields();
+    maker.random(Maker::random_later_of_systems, 120, 90);
     maker.cases
 }
 
@@ -113,8 +116,16 @@ pub(crate) fn reading_text(reading: &Reading) -> String {
         Some(addresses) => hex(&addresses.concat()),
         None => "absent".to_string(),
     };
+    let capabilities = match reading.capabilities {
+        Some(Capabilities { can, enabled }) => format!("{can}/{enabled}"),
+        None => "absent".to_string(),
+    };
+    let management = match reading.management.as_slice() {
+        [] => "none".to_string(),
+        addresses => addresses.iter().map(|octets| hex(octets)).collect::<Vec<_>>().join("/"),
+    };
     format!(
-        "valid {} {} {} {} {} {} {} {} {link} {list}",
+        "valid {} {} {} {} {} {} {} {} {link} {list} {} {} {capabilities} {management}",
         reading.outline.length,
         if reading.htip { "yes" } else { "no" },
         identity_text(&reading.outline),
@@ -123,6 +134,8 @@ pub(crate) fn reading_text(reading: &Reading) -> String {
         hex(&reading.manufacturer),
         hex(&reading.model_name),
         hex(&reading.model_number),
+        hex(&reading.system_name),
+        hex(&reading.system_description),
     )
 }
 
@@ -146,7 +159,7 @@ pub(crate) fn hex(octets: &[u8]) -> String {
 #[cfg(test)]
 mod tests {
     use super::*;
-    use blocks::{end, from_a_station, leading, typical};
+    use blocks::{end, from_a_station, leading, lldpdu, typical};
 
     #[test]
     fn there_are_as_many_cases_as_promised() {
@@ -154,9 +167,9 @@ mod tests {
         let frames = cases.iter().filter(|case| case.kind == Kind::Frame).count();
         let bare = cases.len() - frames;
         println!("{} cases, {frames} frames, {bare} bare", cases.len());
-        assert!((3000..=4000).contains(&cases.len()));
-        assert!(frames >= 2400);
-        assert!(bare >= 600);
+        assert!((4000..=9900).contains(&cases.len()));
+        assert!(frames >= 3200);
+        assert!(bare >= 1100);
     }
 
     /// A rule that hardly ever decides would hardly be compared.
@@ -175,7 +188,15 @@ mod tests {
             ("six octets", lines(&|w| w[..2] == ["outline", "valid"] && is_address(w, 6))),
             ("eight octets", lines(&|w| w[..2] == ["outline", "valid"] && is_address(w, 8))),
             ("local", lines(&|w| w[..2] == ["outline", "valid"] && w[3] == "7")),
+            ("system name", lines(&|w| system_words(w).is_some_and(|s| s[0] != "."))),
+            ("system description", lines(&|w| system_words(w).is_some_and(|s| s[1] != "."))),
+            ("no flag set", lines(&|w| system_words(w).is_some_and(|s| s[2] == "0/0"))),
+            ("flags", lines(&|w| system_words(w).is_some_and(|s| is_some_flag(s[2])))),
         ];
+        for count in 1..=4 {
+            let so_many = |s: [&str; 4]| s[3] != "none" && s[3].split('/').count() == count;
+            counts.push(("management", lines(&|w| system_words(w).is_some_and(so_many))));
+        }
         for number in ["3", "4", "5", "6"] {
             counts.push((number, lines(&|w| w == ["reading", "refused", number])));
         }
@@ -185,6 +206,15 @@ mod tests {
         counts.push(("3 for the source", cases.iter().filter(|case| source_alone(case)).count()));
         println!("{counts:?}");
         assert!(counts.iter().all(|&(_, count)| count >= 20));
+    }
+
+    /// The system fields of a reading: the last four words of its line.
+    fn system_words<'a>(words: &[&'a str]) -> Option<[&'a str; 4]> {
+        words.last_chunk().filter(|_| words[..2] == ["reading", "valid"]).copied()
+    }
+
+    fn is_some_flag(capabilities: &str) -> bool {
+        !["absent", "0/0"].contains(&capabilities)
     }
 
     /// The chassis of an outline is an address of so many octets (L3).
@@ -198,6 +228,19 @@ mod tests {
             && case.octets.len() >= HEADER
             && outline_frame(&case.octets) == Err(3)
             && outline_frame(&from_a_station(case.octets.clone())) != Err(3)
+    }
+
+    #[test]
+    fn a_reading_has_its_line() {
+        let mut reading = read_lldpdu(&lldpdu(&leading(), &[])).expect("it is valid");
+        let line = "valid 19 no 4 020000000001 7 31 120 . . . . . absent absent . . absent none";
+        assert_eq!(reading_text(&reading), line);
+        reading.system_name = b"sw1".to_vec();
+        reading.system_description = vec![0x00, 0xFF];
+        reading.capabilities = Some(Capabilities { can: 20, enabled: 4 });
+        reading.management = vec![vec![0x0A; 9], vec![0x10, 0x20]];
+        let line = "737731 00FF 20/4 0A0A0A0A0A0A0A0A0A/1020";
+        assert!(reading_text(&reading).ends_with(&format!(" absent absent {line}")));
     }
 
     /// What is called a right header is one (F1 to F4): the frame is judged as its LLDPDU is (A5).

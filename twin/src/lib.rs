@@ -47,10 +47,10 @@ mod tests {
             ["frames", "announcements"].map(|kind| files(kind).expect("there is such a kind"));
         let (events, text_of_events) = events::tests::stored();
         let sizes = [
-            (frames.0.len(), 399_999),
-            (frames.1.len(), 500_000),
-            (announcements.0.len(), 399_999),
-            (announcements.1.len(), 600_000),
+            (frames.0.len(), 590_000),
+            (frames.1.len(), 800_000),
+            (announcements.0.len(), 690_000),
+            (announcements.1.len(), 800_000),
             (events::case_file(events).len(), 899_999),
             (text_of_events.len(), 800_000),
         ];

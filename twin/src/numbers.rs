@@ -1,12 +1,18 @@
 //! The numbers that reader and writer share, so that each has one name.
 //! The makers of cases do not use them: they type what they need once more.
 
-/// Types of TLVs (L3 to L5, L7, T1, T10).
+use std::ops::RangeInclusive;
+
+/// Types of TLVs (L3 to L5, L7, T1, T10, S1 to S3).
 pub const END: u8 = 0;
 pub const CHASSIS: u8 = 1;
 pub const PORT: u8 = 2;
 pub const SECONDS: u8 = 3;
 pub const DESCRIPTION: u8 = 4;
+pub const SYSTEM_NAME: u8 = 5;
+pub const SYSTEM_DESCRIPTION: u8 = 6;
+pub const CAPABILITIES: u8 = 7;
+pub const MANAGEMENT: u8 = 8;
 pub const ORGANIZATION: u8 = 127;
 
 /// Subtypes of a chassis ID (L3).
@@ -25,3 +31,9 @@ pub const MANUFACTURER: u8 = 2;
 pub const MODEL_NAME: u8 = 3;
 pub const MODEL_NUMBER: u8 = 4;
 pub const VENDOR: u8 = 255;
+
+/// The right lengths of a system name or a system description, and of a management address (S1,
+/// S3), and how many of these addresses there may be (S5).
+pub const TEXT_LENGTHS: RangeInclusive<usize> = 0..=255;
+pub const MANAGEMENT_LENGTHS: RangeInclusive<usize> = 9..=167;
+pub const MOST_MANAGEMENT: usize = 4;

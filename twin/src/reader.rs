@@ -34,7 +34,7 @@ pub struct Outline {
 }
 
 /// All that the reader answers (A1). An absent string is empty (A2); an absent table is not an
-/// empty one (A3).
+/// empty one, and absent capabilities are not capabilities with no flag set (A3).
 #[derive(Clone, Debug, PartialEq, Eq)]
 pub struct Reading {
     pub outline: Outline,
@@ -46,6 +46,11 @@ pub struct Reading {
     pub model_number: Vec<u8>,
     pub link: Option<Link>,
     pub list: Option<Vec<Address>>,
+    pub system_name: Vec<u8>,
+    pub system_description: Vec<u8>,
+    pub capabilities: Option<Capabilities>,
+    /// Management addresses, at most four (S5), as plain octets (S3).
+    pub management: Vec<Vec<u8>>,
 }
 
 /// Link information. Interface type and port number are kept as octets: 00 06 is not 06 (T7).
@@ -54,6 +59,13 @@ pub struct Link {
     pub interface: Vec<u8>,
     pub number: Vec<u8>,
     pub addresses: Vec<Address>,
+}
+
+/// Two sets of sixteen flags: what the system can do, and what of it is enabled (S2).
+#[derive(Clone, Copy, Debug, PartialEq, Eq)]
+pub struct Capabilities {
+    pub can: u16,
+    pub enabled: u16,
 }
 
 /// A string of one to four octets as a number, together with its count of octets (A4).
@@ -129,6 +141,10 @@ pub fn read_lldpdu(lldpdu: &[u8]) -> Result<Reading, Refusal> {
             Field::List(addresses) => Some(addresses.clone()),
             _ => None,
         }),
+        system_name: text_of(&later, SYSTEM_NAME),
+        system_description: text_of(&later, SYSTEM_DESCRIPTION),
+        capabilities: first_of(&later, CAPABILITIES).and_then(capabilities_of),
+        management: management_of(&later),
     })
 }
 
@@ -233,7 +249,8 @@ enum Field {
     List(Vec<Address>),
     /// A port description or a TTC field of subtype 1 to 3 that is not well formed (H1).
     Malformed,
-    /// Anything that neither has a value nor spoils the verdict.
+    /// Anything that neither has a value here nor spoils the verdict. System fields are among it:
+    /// they are read by rules of their own (S4, S5), and the verdict does not know them (H1).
     Skipped,
 }
 
@@ -314,6 +331,38 @@ fn addresses_of(octets: &[u8]) -> Option<Vec<Address>> {
     let (&k, behind) = octets.split_first()?;
     let (addresses, left_over) = behind.as_chunks::<6>();
     (left_over.is_empty() && addresses.len() == usize::from(k)).then(|| addresses.to_vec())
+}
+
+/// The information string of the first TLV of the type; a later one never stands in for it (S4).
+fn first_of(later: &[Tlv], kind: u8) -> Option<&[u8]> {
+    later.iter().find(|tlv| tlv.kind == kind).map(|tlv| tlv.value.as_slice())
+}
+
+/// A system name or a system description; of a wrong length it is absent, and so empty (S1, A2).
+fn text_of(later: &[Tlv], kind: u8) -> Vec<u8> {
+    let first = first_of(later, kind).filter(|text| TEXT_LENGTHS.contains(&text.len()));
+    first.unwrap_or_default().to_vec()
+}
+
+/// Exactly four octets, two for each set, high octet first (S2).
+fn capabilities_of(value: &[u8]) -> Option<Capabilities> {
+    match *value {
+        [a, b, c, d] => Some(Capabilities {
+            can: u16::from_be_bytes([a, b]),
+            enabled: u16::from_be_bytes([c, d]),
+        }),
+        _ => None,
+    }
+}
+
+/// The first four of a right length; one of a wrong length is passed over and not counted (S5).
+fn management_of(later: &[Tlv]) -> Vec<Vec<u8>> {
+    later
+        .iter()
+        .filter(|tlv| tlv.kind == MANAGEMENT && MANAGEMENT_LENGTHS.contains(&tlv.value.len()))
+        .take(MOST_MANAGEMENT)
+        .map(|tlv| tlv.value.clone())
+        .collect()
 }
 
 fn first_or_empty(strings: Vec<Vec<u8>>) -> Vec<u8> {

@@ -1,9 +1,11 @@
 //! The writer: a description, its strings being parts of a text, becomes an LLDPDU or a refusal.
 //! The LLDPDU is put together whole and only then held against the room, so that 9 comes before 10.
 
+use std::ops::RangeInclusive;
+
 use crate::id::Id;
 use crate::numbers::*;
-use crate::reader::Refusal;
+use crate::reader::{Capabilities, Refusal};
 
 const BREAKS_A_RULE: Refusal = 9;
 const NO_ROOM: Refusal = 10;
@@ -12,7 +14,8 @@ const LONGEST_LLDPDU: usize = 1500;
 const LONGEST_VALUE: usize = 511;
 
 /// What is to be written. Its strings are parts of a text, or octets of their own; an absent string
-/// is empty (A2), but an absent table is not an empty one (A3).
+/// is empty (A2), but an absent table is not an empty one, nor are absent capabilities such with no
+/// flag set (A3).
 #[derive(Clone, Debug, PartialEq, Eq)]
 pub struct Description<S = Part> {
     pub chassis: Id<S>,
@@ -27,6 +30,10 @@ pub struct Description<S = Part> {
     pub link: Option<LinkStrings<S>>,
     /// All octets of the addresses, one address behind the other.
     pub list: Option<S>,
+    pub system_name: S,
+    pub system_description: S,
+    pub capabilities: Option<Capabilities>,
+    pub management: Management<S>,
 }
 
 #[derive(Clone, Debug, PartialEq, Eq)]
@@ -37,8 +44,42 @@ pub struct LinkStrings<S = Part> {
     pub addresses: S,
 }
 
+/// Management addresses: how many there are, and slots for as many as there may be (S5). Any count
+/// can be handed in. What the slots at or behind the count have is no part of the description.
+#[derive(Clone, Debug, Default, PartialEq, Eq)]
+pub struct Management<S = Part> {
+    pub count: u64,
+    pub slots: [S; MOST_MANAGEMENT],
+}
+
+impl<S> Management<S> {
+    /// Those that are there. Where the count is too large, the slots have only some of them.
+    pub fn given(&self) -> &[S] {
+        let count = usize::try_from(self.count).unwrap_or(usize::MAX);
+        &self.slots[..count.min(MOST_MANAGEMENT)]
+    }
+
+    /// As `Description::with`. The slots at or behind the count are not looked at.
+    fn with<T: Default>(&self, turned: impl FnMut(&S) -> Option<T>) -> Option<Management<T>> {
+        let turned: Option<Vec<T>> = self.given().iter().map(turned).collect();
+        Some(Management { count: self.count, ..Management::of(turned?) })
+    }
+}
+
+impl<S: Default> Management<S> {
+    /// These, of which there are at most four.
+    pub fn of(addresses: Vec<S>) -> Self {
+        let mut management = Management::default();
+        for (slot, address) in management.slots.iter_mut().zip(addresses) {
+            *slot = address;
+            management.count += 1;
+        }
+        management
+    }
+}
+
 /// So many octets of the text, from `start` on. Any two numbers can be handed in.
-#[derive(Clone, Copy, Debug, PartialEq, Eq)]
+#[derive(Clone, Copy, Debug, Default, PartialEq, Eq)]
 pub struct Part {
     pub start: u64,
     pub len: u64,
@@ -56,7 +97,10 @@ impl Part {
 
 impl<S> Description<S> {
     /// The same with each string turned into something else, front to back; None if one cannot be.
-    pub fn with<T>(&self, mut turned: impl FnMut(&S) -> Option<T>) -> Option<Description<T>> {
+    pub fn with<T: Default>(
+        &self,
+        mut turned: impl FnMut(&S) -> Option<T>,
+    ) -> Option<Description<T>> {
         Some(Description {
             chassis: self.chassis.with(&mut turned)?,
             port: self.port.with(&mut turned)?,
@@ -78,6 +122,10 @@ impl<S> Description<S> {
                 Some(addresses) => Some(turned(addresses)?),
                 None => None,
             },
+            system_name: turned(&self.system_name)?,
+            system_description: turned(&self.system_description)?,
+            capabilities: self.capabilities,
+            management: self.management.with(&mut turned)?,
         })
     }
 }
@@ -114,18 +162,35 @@ fn lldpdu(description: &Description<&[u8]>) -> Option<Vec<u8>> {
     (whole.len() <= LONGEST_LLDPDU).then_some(whole)
 }
 
-/// With seconds 0 all but chassis and port ID is absent; a table without addresses is not (W3).
+/// With seconds 0 all but chassis and port ID is absent; a table without addresses is not, nor are
+/// capabilities with no flag set (W3).
 fn nothing_later(description: &Description<&[u8]>) -> Option<Vec<u8>> {
-    let Description { words, category, manufacturer, model_name, model_number, link, list, .. } =
-        description;
-    let strings = [words, category, manufacturer, model_name, model_number];
-    let absent = strings.iter().all(|string| string.is_empty()) && link.is_none() && list.is_none();
+    let strings = [
+        description.words,
+        description.system_name,
+        description.system_description,
+        description.category,
+        description.manufacturer,
+        description.model_name,
+        description.model_number,
+    ];
+    let absent = strings.iter().all(|string| string.is_empty())
+        && description.capabilities.is_none()
+        && description.management.count == 0
+        && description.link.is_none()
+        && description.list.is_none();
     absent.then(Vec::new)
 }
 
 /// What stands between the third TLV and the End with seconds above 0 (W1). Category and model
 /// number are always written, so that an empty one breaks T3 (W2).
 fn later_tlvs(description: &Description<&[u8]>) -> Option<Vec<u8>> {
+    let capabilities = match description.capabilities {
+        Some(Capabilities { can, enabled }) => {
+            tlv(CAPABILITIES, &[&can.to_be_bytes(), &enabled.to_be_bytes()])?
+        }
+        None => vec![],
+    };
     let link = match &description.link {
         Some(link) => link_tlv(link)?,
         None => vec![],
@@ -136,6 +201,12 @@ fn later_tlvs(description: &Description<&[u8]>) -> Option<Vec<u8>> {
     };
     let tlvs = [
         if_any(description.words, words_tlv)?,
+        if_any(description.system_name, |text| bounded_tlv(SYSTEM_NAME, text, TEXT_LENGTHS))?,
+        if_any(description.system_description, |text| {
+            bounded_tlv(SYSTEM_DESCRIPTION, text, TEXT_LENGTHS)
+        })?,
+        capabilities,
+        management_tlvs(&description.management)?,
         device_tlv(CATEGORY, description.category, 255)?,
         if_any(description.manufacturer, |string| device_tlv(MANUFACTURER, string, 6))?,
         if_any(description.model_name, |string| device_tlv(MODEL_NAME, string, 31))?,
@@ -165,15 +236,29 @@ fn id_tlv(kind: u8, id: &Id<&[u8]>) -> Option<Vec<u8>> {
 
 /// At most 255 octets, each of them one of the allowed characters (T10).
 fn words_tlv(words: &[u8]) -> Option<Vec<u8>> {
-    if words.len() > 255 || !words.iter().all(|&octet| may_be_in_words(octet)) {
+    if !words.iter().all(|&octet| may_be_in_words(octet)) {
         return None;
     }
-    tlv(DESCRIPTION, &[words])
+    bounded_tlv(DESCRIPTION, words, 0..=255)
 }
 
 fn may_be_in_words(octet: u8) -> bool {
     const SIGNS: [u8; 19] = *b"-'()+,./:=?;!*#@$_%";
     matches!(octet, b' ' | b'A'..=b'Z' | b'a'..=b'z' | b'0'..=b'9') || SIGNS.contains(&octet)
+}
+
+/// Each in the order given (W1). More than four break a rule, and so does one of a wrong length
+/// (W7).
+fn management_tlvs(management: &Management<&[u8]>) -> Option<Vec<u8>> {
+    if management.count > MOST_MANAGEMENT as u64 {
+        return None;
+    }
+    let tlvs: Option<Vec<_>> = management
+        .given()
+        .iter()
+        .map(|address| bounded_tlv(MANAGEMENT, address, MANAGEMENT_LENGTHS))
+        .collect();
+    Some(tlvs?.concat())
 }
 
 /// ID, string length, string (T2). Only the length is limited, not the octets (T3).
@@ -206,6 +291,14 @@ fn count_of(addresses: &[u8]) -> Option<[u8; 1]> {
 /// A TLV of type 127 that belongs to TTC (T1).
 fn ttc_tlv(subtype: u8, body: &[&[u8]]) -> Option<Vec<u8>> {
     tlv(ORGANIZATION, &[&TTC, &[subtype], &body.concat()])
+}
+
+/// A TLV of octets as they are, if their number is right.
+fn bounded_tlv(kind: u8, octets: &[u8], lengths: RangeInclusive<usize>) -> Option<Vec<u8>> {
+    if !lengths.contains(&octets.len()) {
+        return None;
+    }
+    tlv(kind, &[octets])
 }
 
 /// Seven bits of type, nine of length, and then the information string (L1), which has at most 511

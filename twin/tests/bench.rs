@@ -1,18 +1,12 @@
 //! The bench frames, the source (F4), the chassis (L3) and the readings of open points, as tests.
 //! Octets and expected values are typed from the rules page by hand, never taken from the program.
 
+mod changed;
 mod page;
 
+use changed::*;
 use page::*;
 use twin::reader::*;
-
-/// Where the TLVs of frame A begin.
-const FIRST: usize = 14;
-const SECOND: usize = 23;
-const THIRD: usize = 27;
-const CATEGORY: usize = 31;
-const MODEL_NUMBER: usize = 40;
-const END: usize = 49;
 
 /// The second destination (F2).
 const NEAREST: Address = [0x01, 0x80, 0xC2, 0x00, 0x00, 0x0E];
@@ -20,43 +14,9 @@ const NEAREST: Address = [0x01, 0x80, 0xC2, 0x00, 0x00, 0x0E];
 /// The group address that F4 shows.
 const NO_STATION: Address = [0x03, 0x00, 0x00, 0x00, 0x00, 0x01];
 
-/// Frame A with the octets from one place to another replaced.
-fn replaced(from: usize, to: usize, by: &[u8]) -> Vec<u8> {
-    [&FRAME_A[..from], by, &FRAME_A[to..]].concat()
-}
-
-/// Frame A with octets put before its End.
-fn before_end(octets: &[u8]) -> Vec<u8> {
-    replaced(END, END, octets)
-}
-
 /// Frame A with another source.
 fn sent_by(source: Address) -> Vec<u8> {
     replaced(6, 12, &source)
-}
-
-/// What the page says of frame A (B1).
-fn reading_of_a() -> Reading {
-    Reading {
-        outline: Outline {
-            length: 37,
-            chassis: id(4, &[0x02, 0x00, 0x00, 0x00, 0x00, 0x01]),
-            port: id(7, &[0x31]),
-            seconds: 120,
-        },
-        htip: true,
-        description: vec![],
-        category: vec![0x41],
-        manufacturer: vec![],
-        model_name: vec![],
-        model_number: vec![0x37],
-        link: None,
-        list: None,
-    }
-}
-
-fn reading(frame: &[u8]) -> Reading {
-    read_frame(frame).expect("the frame is valid")
 }
 
 #[test]

@@ -1,49 +1,14 @@
 //! The writer's rules (W1 to W7, R9 to R12) and the readings of open points, as ordinary tests.
 //! Octets and expected values are typed from the rules page by hand, never taken from the program.
 
+mod described;
 mod page;
 
+use described::*;
 use page::*;
 use twin::id::Id;
-use twin::reader::{read_frame, read_lldpdu, Link};
+use twin::reader::{read_frame, read_lldpdu, Capabilities, Link};
 use twin::writer::*;
-
-/// What frame A says, as parts of this text.
-const TEXT_OF_A: &[u8] = b"1A7\x02\x00\x00\x00\x00\x01";
-
-fn part(start: u64, len: u64) -> Part {
-    Part { start, len }
-}
-
-fn description_of_a() -> Description {
-    Description {
-        chassis: Id { subtype: 4, octets: part(3, 6) },
-        port: Id { subtype: 7, octets: part(0, 1) },
-        seconds: 120,
-        words: part(0, 0),
-        category: part(1, 1),
-        manufacturer: part(0, 0),
-        model_name: part(0, 0),
-        model_number: part(2, 1),
-        link: None,
-        list: None,
-    }
-}
-
-/// Frame A's description and text, changed, with more room than anything needs.
-fn written(change: impl FnOnce(&mut Description, &mut Vec<u8>)) -> Result<Vec<u8>, u8> {
-    let mut description = description_of_a();
-    let mut text = TEXT_OF_A.to_vec();
-    change(&mut description, &mut text);
-    write(&description, &text, 1600)
-}
-
-/// Puts octets at the end of the text.
-fn put(text: &mut Vec<u8>, octets: &[u8]) -> Part {
-    let start = text.len() as u64;
-    text.extend(octets);
-    part(start, octets.len() as u64)
-}
 
 /// Puts the strings of link information there, with so many octets of addresses.
 fn put_link(text: &mut Vec<u8>, interface: &[u8], number: &[u8], octets: usize) -> LinkStrings {
@@ -66,28 +31,9 @@ fn with_list(octets: usize) -> Result<Vec<u8>, u8> {
     written(|description, text| description.list = Some(put(text, &vec![9; octets])))
 }
 
-/// Frame A's first three TLVs with seconds 0, and the End.
-fn goodbye_of_a() -> Vec<u8> {
-    [&A[..15], &[0x00, 0x00], &A[35..]].concat()
-}
-
 /// Frame A with another chassis.
 fn with_chassis(chassis: &Id) -> Result<Vec<u8>, u8> {
     written(|description, text| description.chassis = put_id(text, chassis))
-}
-
-fn put_id(text: &mut Vec<u8>, id: &Id) -> Id<Part> {
-    Id { subtype: id.subtype, octets: put(text, &id.octets) }
-}
-
-/// All but chassis and port ID absent, and then changed.
-fn goodbye(change: impl FnOnce(&mut Description, &mut Vec<u8>)) -> Result<Vec<u8>, u8> {
-    written(|description, text| {
-        description.seconds = 0;
-        description.category = part(0, 0);
-        description.model_number = part(0, 0);
-        change(description, text);
-    })
 }
 
 #[test]
@@ -101,6 +47,7 @@ fn everything_in_its_order() {
     let text = [
         &b"__eth0/1 TV0A1B2CLampX-9\x06\x00\x03"[..],
         b"\x02\x00\x00\x00\x00\x11\x02\x00\x00\x00\x00\x12_\xAA\xBB\xCC\xDD\xEE\xFF",
+        b"sw1Lab\x05\x01\xC0\x00\x02\x01\x02\x00\x00",
     ]
     .concat();
     let description = Description {
@@ -118,12 +65,21 @@ fn everything_in_its_order() {
             addresses: part(27, 12),
         }),
         list: Some(part(33, 6)),
+        system_name: part(46, 3),
+        system_description: part(49, 3),
+        capabilities: Some(Capabilities { can: 20, enabled: 4 }),
+        management: Management::of(vec![part(52, 9), part(40, 12)]),
     };
     let expected = [
         &[0x02, 0x07, 0x04, 0xAA, 0xBB, 0xCC, 0xDD, 0xEE, 0xFF][..],
         &[0x04, 0x05, 0x05, 0x65, 0x74, 0x68, 0x30],
         &[0x06, 0x02, 0x12, 0x34],
         &[0x08, 0x02, 0x2F, 0x31],
+        &[0x0A, 0x03, 0x73, 0x77, 0x31],
+        &[0x0C, 0x03, 0x4C, 0x61, 0x62],
+        &[0x0E, 0x04, 0x00, 0x14, 0x00, 0x04],
+        &[0x10, 0x09, 0x05, 0x01, 0xC0, 0x00, 0x02, 0x01, 0x02, 0x00, 0x00],
+        &[0x10, 0x0C, 0xAA, 0xBB, 0xCC, 0xDD, 0xEE, 0xFF, 0x73, 0x77, 0x31, 0x4C, 0x61, 0x62],
         &[0xFE, 0x08, 0xE0, 0x27, 0x1A, 0x01, 0x01, 0x02, 0x54, 0x56],
         &[0xFE, 0x0C, 0xE0, 0x27, 0x1A, 0x01, 0x02, 0x06, 0x30, 0x41, 0x31, 0x42, 0x32, 0x43],
         &[0xFE, 0x0A, 0xE0, 0x27, 0x1A, 0x01, 0x03, 0x04, 0x4C, 0x61, 0x6D, 0x70],
@@ -139,7 +95,7 @@ fn everything_in_its_order() {
     // Behind a header it reads back as the description, and it is HTIP (W6).
     let reading = read_frame(&[&HEADER[..], &expected].concat()).expect("the frame is valid");
     assert!(reading.htip);
-    assert_eq!(reading.outline.length, 110);
+    assert_eq!(reading.outline.length, 151);
     assert_eq!(reading.outline.chassis, id(4, &[0xAA, 0xBB, 0xCC, 0xDD, 0xEE, 0xFF]));
     assert_eq!(reading.outline.port, id(5, b"eth0"));
     assert_eq!(reading.outline.seconds, 0x1234);
@@ -151,6 +107,10 @@ fn everything_in_its_order() {
     let addresses = vec![[0x02, 0, 0, 0, 0, 0x11], [0x02, 0, 0, 0, 0, 0x12]];
     assert_eq!(reading.list, Some(vec![addresses[1]]));
     assert_eq!(reading.link, Some(Link { interface: vec![6], number: vec![0, 3], addresses }));
+    assert_eq!(reading.system_name, b"sw1");
+    assert_eq!(reading.system_description, b"Lab");
+    assert_eq!(reading.capabilities, Some(Capabilities { can: 20, enabled: 4 }));
+    assert_eq!(reading.management, [&text[52..61], &text[40..52]]);
 }
 
 #[test]

@@ -2,17 +2,36 @@
 -- The laws of one TLV are in tlvs/proofs.
 use Prim.Native.Nat.{ℕ, suc, _+_, _/_, _%_}
 use mathlib.Core.Path.{_≡_, refl, sym, ap, _∙_}
-use mathlib.Core.List.{List, [], _∷_, _++_}
+use mathlib.Core.List.{List, [], _∷_, _++_, map, append-assoc}
 use native.Mathlib.Omega.{arith}
 use lib.ListN.{length}
 use Rattle.octets.specs.Header.{high, low}
 use Rattle.output.specs.Output.{Output, puts}
 use Rattle.output.proofs.OutputLaws.{puts-then, puts-same}
 use Rattle.ids.specs.Id.{Id, id}
+use Rattle.system.specs.System.{SystemInfo, unsaid}
 use Rattle.reading.specs.Meaning.{Said}
-use Rattle.tlvs.specs.Tlvs.{written, octetsOf, chassisTlv, portTlv, secondsTlv, endTlv, wordsTlv, deviceTlv, unlessEmpty, ifLinked, ifListed}
+use Rattle.tlvs.specs.Tlvs.{written, octetsOf, chassisTlv, portTlv, secondsTlv, endTlv, wordsTlv, nameTlv, systemDescriptionTlv, managementTlv, deviceTlv, unlessEmpty, ifFlagged, ifLinked, ifListed}
 use Rattle.tlvs.proofs.TlvLaws.{octets-append}
-use Rattle.announcement.specs.Encode.{fieldTlvs, tlvsOf, encode}
+use Rattle.announcement.specs.Encode.{systemTlvs, deviceTlvs, fieldTlvs, tlvsOf, encode}
+
+-- the system fields put one behind the other, from the output o on
+module _ (x : SystemInfo) where
+  system-split :
+      octetsOf (unlessEmpty nameTlv (x .name))
+      ++ (octetsOf (unlessEmpty systemDescriptionTlv (x .description))
+      ++ (octetsOf (ifFlagged (x .capabilities)) ++ octetsOf (map managementTlv (x .management))))
+      ≡ octetsOf (systemTlvs x)
+  unfolding systemTlvs
+  system-split = simp octets-append
+
+  pub system-put : (o : Output) {p q r s : Output}
+      → p ≡ puts (octetsOf (unlessEmpty nameTlv (x .name))) o
+      → q ≡ puts (octetsOf (unlessEmpty systemDescriptionTlv (x .description))) p
+      → r ≡ puts (octetsOf (ifFlagged (x .capabilities))) q
+      → s ≡ puts (octetsOf (map managementTlv (x .management))) r
+      → s ≡ puts (octetsOf (systemTlvs x)) o
+  system-put o e f g h = puts-same o (puts-then _ _ _ e (puts-then _ _ _ f (puts-then _ _ _ g h))) system-split
 
 module _ (d : Said) where
   abbrev wordsPut : List ℕ
@@ -21,31 +40,35 @@ module _ (d : Said) where
   abbrev devicePut : ℕ → List ℕ → List ℕ
   devicePut id x = octetsOf (unlessEmpty (deviceTlv id) x)
 
+  devices-split :
+      devicePut 1 (d .category) ++ (devicePut 2 (d .manufacturer) ++ (devicePut 3 (d .model) ++ devicePut 4 (d .number))) ≡ octetsOf (deviceTlvs d)
+  unfolding deviceTlvs
+  devices-split = simp octets-append
+
+  -- the device information put one behind the other, from the output o on
+  pub devices-put : (o : Output) {p q r s : Output}
+      → p ≡ puts (devicePut 1 (d .category)) o
+      → q ≡ puts (devicePut 2 (d .manufacturer)) p
+      → r ≡ puts (devicePut 3 (d .model)) q
+      → s ≡ puts (devicePut 4 (d .number)) r
+      → s ≡ puts (octetsOf (deviceTlvs d)) o
+  devices-put o e f g h = puts-same o (puts-then _ _ _ e (puts-then _ _ _ f (puts-then _ _ _ g h))) devices-split
+
   fields-split :
-      wordsPut
-      ++ (devicePut 1 (d .category)
-      ++ (devicePut 2 (d .manufacturer)
-      ++ (devicePut 3 (d .model)
-      ++ (devicePut 4 (d .number)
-      ++ (octetsOf (ifLinked (d .link)) ++ octetsOf (ifListed (d .list)))))))
+      wordsPut ++ (octetsOf (systemTlvs (d .system)) ++ (octetsOf (deviceTlvs d) ++ (octetsOf (ifLinked (d .link)) ++ octetsOf (ifListed (d .list)))))
       ≡ octetsOf (fieldTlvs d)
   unfolding fieldTlvs
   fields-split = simp octets-append
 
-  -- the fields put one behind the other, from the output o on
-  pub fields-put : (o : Output) {p q r s t u v : Output}
+  -- the fields, likewise
+  pub fields-put : (o : Output) {p q r s t : Output}
       → p ≡ puts wordsPut o
-      → q ≡ puts (devicePut 1 (d .category)) p
-      → r ≡ puts (devicePut 2 (d .manufacturer)) q
-      → s ≡ puts (devicePut 3 (d .model)) r
-      → t ≡ puts (devicePut 4 (d .number)) s
-      → u ≡ puts (octetsOf (ifLinked (d .link))) t
-      → v ≡ puts (octetsOf (ifListed (d .list))) u
-      → v ≡ puts (octetsOf (fieldTlvs d)) o
-  fields-put o e f g h i j k =
-      puts-same o
-      (puts-then _ _ _ e (puts-then _ _ _ f (puts-then _ _ _ g (puts-then _ _ _ h (puts-then _ _ _ i (puts-then _ _ _ j k))))))
-      fields-split
+      → q ≡ puts (octetsOf (systemTlvs (d .system))) p
+      → r ≡ puts (octetsOf (deviceTlvs d)) q
+      → s ≡ puts (octetsOf (ifLinked (d .link))) r
+      → t ≡ puts (octetsOf (ifListed (d .list))) s
+      → t ≡ puts (octetsOf (fieldTlvs d)) o
+  fields-put o e f g h i = puts-same o (puts-then _ _ _ e (puts-then _ _ _ f (puts-then _ _ _ g (puts-then _ _ _ h i)))) fields-split
 
   encode-split :
       written (chassisTlv (d .chassis))
@@ -79,3 +102,25 @@ module _ (d : Said) where
       sym encode-split
       ∙ ap (λ (c : Id). written (chassisTlv c) ++ (written (portTlv (d .port)) ++ (written (secondsTlv (d .seconds)) ++ (octetsOf (fieldTlvs d) ++ written endTlv)))) e
       ∙ rw (six, p) refl
+
+  -- the octets of the order that W1 had before there were system fields, each TLV by a definition that is the same as then
+  abbrev pub octetsBefore : List ℕ
+  octetsBefore =
+      written (chassisTlv (d .chassis))
+      ++ (written (portTlv (d .port))
+      ++ (written (secondsTlv (d .seconds))
+      ++ (octetsOf (unlessEmpty wordsTlv (d .words))
+      ++ (octetsOf (unlessEmpty (deviceTlv 1) (d .category))
+      ++ (octetsOf (unlessEmpty (deviceTlv 2) (d .manufacturer))
+      ++ (octetsOf (unlessEmpty (deviceTlv 3) (d .model))
+      ++ (octetsOf (unlessEmpty (deviceTlv 4) (d .number))
+      ++ (octetsOf (ifLinked (d .link)) ++ (octetsOf (ifListed (d .list)) ++ written endTlv)))))))))
+
+  -- they are written where there are no system fields
+  pub without-system : d .system ≡ unsaid → encode d ≡ octetsBefore
+  unfolding systemTlvs octetsOf
+  without-system e =
+      let none : octetsOf (systemTlvs (d .system)) ≡ [] = ap (λ (x : SystemInfo). octetsOf (systemTlvs x)) e in
+      sym encode-split
+      ∙ ap (λ (l : List ℕ). written (chassisTlv (d .chassis)) ++ (written (portTlv (d .port)) ++ (written (secondsTlv (d .seconds)) ++ (l ++ written endTlv)))) (sym fields-split)
+      ∙ rw (none, ← devices-split) (simp append-assoc)

@@ -1,11 +1,21 @@
--- Laws of link information and of an address list: their octets, and that an absent one has none.
+-- Laws of link information, of an address list and of the system fields: their octets, and that an absent one has none.
 -- They are said over the parts that the code has in hand.
-use Prim.Native.Nat.{ℕ}
-use mathlib.Core.Path.{_≡_, sym, ap}
-use mathlib.Core.List.{List, []}
+use Prim.Native.Nat.{ℕ, _+_, _<_, _≤_}
+use mathlib.Core.Path.{_≡_, refl, sym, ap, _∙_}
+use mathlib.Core.List.{List, [], _∷_, _++_, map, map-append}
 use mathlib.Core.Bool.{true, false}
 use mathlib.Core.Option.{Option, some}
-use Rattle.text.specs.Part.{textOf}
+use native.Mathlib.Omega.{arith}
+use native.Mathlib.Numerals.{add-one}
+use lib.ListN.{length, take, getD}
+use lib.Seq.{take-suc, take-all}
+use Rattle.text.specs.Part.{nowhere, textOf, partsIn, textsOf}
+use Rattle.text.specs.declared.Part.{Part}
+use Rattle.text.specs.declared.Parts.{Parts}
+use Rattle.text.proofs.PartsLaws.{texts-length, texts-at}
+use Rattle.system.specs.System.{flagsMeant}
+use Rattle.system.specs.declared.Capabilities.{Capabilities}
+use Rattle.system.specs.declared.Capabilities.the-variants as capabilities-are
 use Rattle.found.specs.Contents.{LinkInfo}
 use Rattle.reading.specs.Reading.{linkParts}
 use Rattle.reading.specs.Meaning.{linkMeant, listMeant}
@@ -14,7 +24,8 @@ use Rattle.reading.specs.declared.Link.{Link}
 use Rattle.reading.specs.declared.LinkParts.{LinkParts}
 use Rattle.reading.specs.declared.AddressList.{AddressList}
 use Rattle.reading.specs.declared.AddressList.the-variants as list-is
-use Rattle.tlvs.specs.Tlvs.{octetsOf, ifLinked, ifListed, linkInfo, countableLink, countableList}
+use Rattle.tlvs.specs.Tlvs.{written, octetsOf, flagsTlv, managementTlv, ifFlagged, ifLinked, ifListed, linkInfo, countableLink, countableList}
+use Rattle.tlvs.proofs.TlvLaws.{one-octets, octets-append}
 
 module _ (s : List ℕ) (l : Link) {t : LinkParts} (e : t ≡ linkParts l) where
   abbrev octets : Option LinkInfo → List ℕ
@@ -32,3 +43,35 @@ module _ (s : List ℕ) (l : Link) {t : LinkParts} (e : t ≡ linkParts l) where
 pub absent-list : (s : List ℕ) {l : AddressList} → l ≡ list-is.Absent → [] ≡ octetsOf (ifListed (countableList (listMeant s l)))
 unfolding octetsOf
 absent-list s e = rw e
+
+-- and of capabilities
+module _ {c : Capabilities} where
+  pub absent-flags : c ≡ capabilities-are.Absent → [] ≡ octetsOf (ifFlagged (flagsMeant c))
+  unfolding octetsOf
+  absent-flags e = rw e
+
+  pub flags-octets : {able enabled : ℕ} → c ≡ capabilities-are.Flags able enabled → written (flagsTlv (record { able = able; enabled = enabled })) ≡ octetsOf (ifFlagged (flagsMeant c))
+  flags-octets {able} {enabled} e = rw e (sym (one-octets (flagsTlv (record { able = able; enabled = enabled }))))
+
+-- The first i management addresses, of the parts that a description has
+module _ (s : List ℕ) (l : Parts) where
+  abbrev pub putUpTo : ℕ → List ℕ
+  putUpTo i = octetsOf (map managementTlv (take i (textsOf s l)))
+
+  pub management-none : [] ≡ putUpTo 0
+  unfolding octetsOf
+  management-none = refl
+
+  pub management-more : (i : ℕ) → i < length (partsIn l) → {p : Part} {x : List ℕ} → p ≡ getD (partsIn l) i nowhere → x ≡ textOf s p
+      → putUpTo i ++ written (managementTlv x) ≡ putUpTo (i + 1)
+  management-more i h e f =
+      let here = f ∙ ap (textOf s) e ∙ sym (texts-at s l i) in
+      let next = ap (λ (n : ℕ). take n (textsOf s l)) (add-one i) ∙ take-suc (textsOf s l) i [] (omega (arith, texts-length s l)) in
+      ap (λ (y : List ℕ). putUpTo i ++ written (managementTlv y)) here
+      ∙ ap (λ (y : List ℕ). putUpTo i ++ y) (sym (one-octets (managementTlv (getD (textsOf s l) i []))))
+      ∙ sym (octets-append (map managementTlv (take i (textsOf s l))) (managementTlv (getD (textsOf s l) i []) ∷ []))
+      ∙ ap octetsOf (sym (map-append managementTlv (take i (textsOf s l)) (getD (textsOf s l) i [] ∷ [])))
+      ∙ ap (λ (y : List (List ℕ)). octetsOf (map managementTlv y)) (sym next)
+
+  pub management-all : (i : ℕ) → length (partsIn l) ≤ i → putUpTo i ≡ octetsOf (map managementTlv (textsOf s l))
+  management-all i h = ap (λ (y : List (List ℕ)). octetsOf (map managementTlv y)) (take-all i (textsOf s l) (omega (arith, texts-length s l)))

@@ -1,19 +1,30 @@
 -- What the writer writes of what is said (W1): the TLVs in their order, then their octets.
 -- Each TLV by itself stands in tlvs/specs.
 use Prim.Native.Nat.{ℕ}
-use mathlib.Core.List.{List, [], _∷_, _++_}
+use mathlib.Core.List.{List, [], _∷_, _++_, map}
 use Rattle.walk.specs.Walk.{Tlv}
+use Rattle.system.specs.System.{SystemInfo}
 use Rattle.reading.specs.Meaning.{Said}
-use Rattle.tlvs.specs.Tlvs.{octetsOf, chassisTlv, portTlv, secondsTlv, endTlv, wordsTlv, deviceTlv, unlessEmpty, ifLinked, ifListed, countable, countableLink, countableList}
+use Rattle.tlvs.specs.Tlvs.{octetsOf, chassisTlv, portTlv, secondsTlv, endTlv, wordsTlv, nameTlv, systemDescriptionTlv, managementTlv, deviceTlv, unlessEmpty, ifFlagged, ifLinked, ifListed, countable, countableLink, countableList}
+
+-- the system fields, in order of type
+unfoldable pub systemTlvs : SystemInfo → List Tlv
+systemTlvs x =
+    unlessEmpty nameTlv (x .name)
+    ++ (unlessEmpty systemDescriptionTlv (x .description)
+    ++ (ifFlagged (x .capabilities) ++ map managementTlv (x .management)))
+
+-- IDs 1 to 4
+unfoldable pub deviceTlvs : Said → List Tlv
+deviceTlvs d =
+    unlessEmpty (deviceTlv 1) (d .category)
+    ++ (unlessEmpty (deviceTlv 2) (d .manufacturer)
+    ++ (unlessEmpty (deviceTlv 3) (d .model) ++ unlessEmpty (deviceTlv 4) (d .number)))
 
 unfoldable pub fieldTlvs : Said → List Tlv
 fieldTlvs d =
     unlessEmpty wordsTlv (d .words)
-    ++ (unlessEmpty (deviceTlv 1) (d .category)
-    ++ (unlessEmpty (deviceTlv 2) (d .manufacturer)
-    ++ (unlessEmpty (deviceTlv 3) (d .model)
-    ++ (unlessEmpty (deviceTlv 4) (d .number)
-    ++ (ifLinked (d .link) ++ ifListed (d .list))))))
+    ++ (systemTlvs (d .system) ++ (deviceTlvs d ++ (ifLinked (d .link) ++ ifListed (d .list))))
 
 unfoldable pub tlvsOf : Said → List Tlv
 tlvsOf d = chassisTlv (d .chassis) ∷ portTlv (d .port) ∷ secondsTlv (d .seconds) ∷ (fieldTlvs d ++ (endTlv ∷ []))
@@ -35,4 +46,5 @@ countableOf d =
       number = countable (d .number);
       link = countableLink (d .link);
       list = countableList (d .list);
+      system = d .system;
     }

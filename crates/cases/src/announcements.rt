@@ -14,17 +14,20 @@ use octets::octet;
 use octets::pair;
 use octets::value_of;
 use reader::AddressList;
+use reader::Capabilities;
 use reader::Description;
 use reader::IdPart;
 use reader::Link;
 use reader::Part;
+use reader::Parts;
+use reader::System;
 use reader::read_lldpdu;
 use reader::text_of;
 use writer::Written;
 use writer::write;
 
 // The octets of a case before its text.
-const HEAD: u32 = 186;
+const HEAD: u32 = 295;
 
 // The most octets of an output.
 const ROOM: usize = 1600;
@@ -84,6 +87,38 @@ fn list_at(octets: &[u8]) -> AddressList {
     AddressList::Listed(part_at(octets, 166))
 }
 
+fn capabilities_at(octets: &[u8]) -> Capabilities {
+    if octet(octets, 214) == 0 {
+        return Capabilities::Absent;
+    }
+    Capabilities::Flags {
+        able: pair(octet(octets, 215), octet(octets, 216)),
+        enabled: pair(octet(octets, 217), octet(octets, 218)),
+    }
+}
+
+// The count, and the four parts whatever it says.
+fn management_at(octets: &[u8]) -> Parts {
+    Parts {
+        count: number_at(octets, 219),
+        parts: [
+            part_at(octets, 227),
+            part_at(octets, 243),
+            part_at(octets, 259),
+            part_at(octets, 275),
+        ],
+    }
+}
+
+fn system_at(octets: &[u8]) -> System {
+    System {
+        name: part_at(octets, 182),
+        description: part_at(octets, 198),
+        capabilities: capabilities_at(octets),
+        management: management_at(octets),
+    }
+}
+
 fn description_at(octets: &[u8]) -> Description {
     Description {
         chassis: id_at(octets, 0, 4),
@@ -96,6 +131,7 @@ fn description_at(octets: &[u8]) -> Description {
         number: part_at(octets, 100),
         link: link_at(octets),
         list: list_at(octets),
+        system: system_at(octets),
     }
 }
 
@@ -171,15 +207,15 @@ fn answer(case: usize, d: Description, text: &[u8], room: usize) {
 
 // The case at the front of the octets; how many of them it has.
 pub(crate) fn run_case(case: usize, octets: &[u8]) -> u32 {
-    let room = pair(octet(octets, 182), octet(octets, 183)) as usize;
-    let length = pair(octet(octets, 184), octet(octets, 185));
+    let room = pair(octet(octets, 291), octet(octets, 292)) as usize;
+    let length = pair(octet(octets, 293), octet(octets, 294));
     answer(
         case,
         description_at(octets),
         text_of(
             octets,
             Part {
-                start: 186,
+                start: 295,
                 len: length as usize,
             },
         ),

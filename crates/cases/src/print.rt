@@ -3,6 +3,7 @@
 use forms::put_form;
 use libc::STDOUT_FILENO;
 use reader::AddressList;
+use reader::Capabilities;
 use reader::Description;
 use reader::Extent;
 use reader::IdPart;
@@ -10,7 +11,11 @@ use reader::Link;
 use reader::Naming;
 use reader::Outline;
 use reader::Part;
+use reader::Parts;
 use reader::Reading;
+use reader::System;
+use reader::nth_part;
+use reader::part_count;
 use reader::text_of;
 
 // The numbers of the forms below.
@@ -44,11 +49,18 @@ const LIST: usize = 14;
 
 const NO_LIST: usize = 15;
 
-const NAMING_REFUSED: usize = 16;
+const NO_CAPABILITIES: usize = 16;
 
-const NAMING_NONE: usize = 17;
+const CAPABILITIES: usize = 17;
 
-const NAMING: usize = 18;
+// The form of no management address; those of one to four stand behind it.
+const NO_MANAGEMENT: usize = 18;
+
+const NAMING_REFUSED: usize = 23;
+
+const NAMING_NONE: usize = 24;
+
+const NAMING: usize = 25;
 
 // More than the longest words, which spell out a buffer of 1,600 octets.
 const LINE: usize = 4096;
@@ -59,7 +71,7 @@ pub(crate) fn say(form: usize, values: [usize; 10], text: &[u8]) {
     let end = put_form(
         &mut line,
         0,
-        b"# refused #\n|# wrote #\n|# output % rest #\n|# again refused #\n|# again # %\n|# outline refused #\n|# outline valid # # % # % #\n|# reading refused #\n|# reading valid # no # % # % #|# reading valid # yes # % # % #| % % % % %| %/%/%| absent| %\n| absent\n|# naming refused #\n|# naming none\n|# naming # # # #\n",
+        b"# refused #\n|# wrote #\n|# output % rest #\n|# again refused #\n|# again # %\n|# outline refused #\n|# outline valid # # % # % #\n|# reading refused #\n|# reading valid # no # % # % #|# reading valid # yes # % # % #| % % % % %| %/%/%| absent| %| absent| % % absent| % % #/#| none\n| %\n| %/%\n| %/%/%\n| %/%/%/%\n|# naming refused #\n|# naming none\n|# naming # # # #\n",
         form,
         &values,
         text,
@@ -151,9 +163,79 @@ fn say_list(lldpdu: &[u8], list: AddressList) {
     }
 }
 
+// The form of capabilities, and its two numbers.
+struct Flags {
+    form: usize,
+    able: usize,
+    enabled: usize,
+}
+
+fn flags_of(c: Capabilities) -> Flags {
+    match c {
+        Capabilities::Absent => Flags {
+            form: NO_CAPABILITIES,
+            able: 0,
+            enabled: 0,
+        },
+        Capabilities::Flags { able, enabled } => Flags {
+            form: CAPABILITIES,
+            able: able as usize,
+            enabled: enabled as usize,
+        },
+    }
+}
+
+// System name, system description and capabilities.
+fn say_system(lldpdu: &[u8], x: System) {
+    let capabilities = x.capabilities;
+    let flags = flags_of(capabilities);
+    say(
+        flags.form,
+        [
+            x.name.start,
+            x.name.len,
+            x.description.start,
+            x.description.len,
+            flags.able,
+            flags.enabled,
+            0,
+            0,
+            0,
+            0,
+        ],
+        lldpdu,
+    );
+}
+
+// As many as there are, each in the form for that number.
+fn say_management(lldpdu: &[u8], l: Parts) {
+    let first = nth_part(l, 0);
+    let second = nth_part(l, 1);
+    let third = nth_part(l, 2);
+    let fourth = nth_part(l, 3);
+    say(
+        NO_MANAGEMENT + part_count(l),
+        [
+            first.start,
+            first.len,
+            second.start,
+            second.len,
+            third.start,
+            third.len,
+            fourth.start,
+            fourth.len,
+            0,
+            0,
+        ],
+        lldpdu,
+    );
+}
+
 fn say_fields(lldpdu: &[u8], d: Description) {
     let link = d.link;
     let list = d.list;
+    let system = d.system;
+    let management = system.management;
     say(
         STRINGS,
         [
@@ -172,6 +254,8 @@ fn say_fields(lldpdu: &[u8], d: Description) {
     );
     say_link(lldpdu, link);
     say_list(lldpdu, list);
+    say_system(lldpdu, system);
+    say_management(lldpdu, management);
 }
 
 pub(crate) fn say_reading(case: usize, lldpdu: &[u8], r: Reading) {

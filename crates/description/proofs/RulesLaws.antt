@@ -2,7 +2,7 @@
 -- `kept` takes the rules apart once; everything else cites its fields.
 use Prim.Native.Nat.{ℕ, _+_, _-_, _%_, _≤_}
 use mathlib.Core.Path.{_≡_, refl, sym, ap, _∙_}
-use mathlib.Core.List.{List, []}
+use mathlib.Core.List.{List, [], _∷_}
 use mathlib.Core.Bool.{Bool, true, false, not}
 use native.Mathlib.Omega.{arith}
 use borrow.Author.Tests.{leb-true, leb-false, eqb-true, le-leb, lt-leb}
@@ -14,8 +14,9 @@ use Rattle.strings.specs.Text.{textOk}
 use Rattle.ids.specs.Id.{chassisOk, portOk}
 use Rattle.fields.specs.Field.{descriptionOf, fieldOf}
 use Rattle.fields.specs.declared.Field.the-variants.{Skipped, Malformed, Says}
-use Rattle.text.specs.Part.{textOf}
+use Rattle.text.specs.Part.{textOf, mostParts}
 use Rattle.text.specs.declared.Part.{Part}
+use Rattle.system.specs.System.{SystemInfo, unsaid, managementSound, systemRules, absentRules}
 use Rattle.reading.specs.Reading.{linkParts}
 use Rattle.reading.specs.Meaning.{Said, linkMeant, listMeant}
 use Rattle.reading.proofs.MeaningLaws.{parts-absent, parts-there}
@@ -38,6 +39,10 @@ pub record Kept (d : Said) : Type 0 where
   pub number : length (d .number) ≤ 31
   pub link : linkSound (d .link) ≡ true
   pub list : listSound (d .list) ≡ true
+  pub name : length (d .system .name) ≤ 255
+  pub description : length (d .system .description) ≤ 255
+  pub few : length (d .system .management) ≤ mostParts
+  pub management : managementSound (d .system .management) ≡ true
   pub timely : pick (eqb (d .seconds) 0) (all (goodbyeRules d)) (all (liveRules d)) ≡ true
 
 pub kept : (d : Said) → soundOf d ≡ true → Kept d
@@ -46,6 +51,7 @@ kept d e =
     let h = held (rules d) e in
     let w = both-true (leb (length (d .words)) 255) (textOk (d .words)) (h .1 .1 .0) in
     let s = held (stringRules d) (h .1 .1 .1 .0) in
+    let x = held (systemRules (d .system)) (h .1 .1 .1 .1 .1 .1 .0) in
     record {
       chassis = h .0;
       port = h .1 .0;
@@ -57,7 +63,11 @@ kept d e =
       number = leb-true (length (d .number)) 31 (s .1 .1 .1 .0);
       link = h .1 .1 .1 .1 .0;
       list = h .1 .1 .1 .1 .1 .0;
-      timely = h .1 .1 .1 .1 .1 .1 .0;
+      name = leb-true (length (d .system .name)) 255 (x .0);
+      description = leb-true (length (d .system .description)) 255 (x .1 .0);
+      few = leb-true (length (d .system .management)) mostParts (x .1 .1 .0);
+      management = x .1 .1 .1 .0;
+      timely = h .1 .1 .1 .1 .1 .1 .1 .0;
     }
 
 -- link information and address list that keep W5
@@ -155,3 +165,32 @@ module _ (s : List ℕ) (l : Link) {t : LinkParts} (e : t ≡ linkParts l) where
 
 pub listed-sound : (s : List ℕ) {l : AddressList} {a : Part} → l ≡ list-is.Listed a → {k : ℕ} → k ≡ length (textOf s a) → listSound (listMeant s l) ≡ listedSound k
 listed-sound s e z = rw (e, z)
+
+-- the rules of before there were system fields, in their order
+abbrev pub rulesBefore : Said → List Bool
+rulesBefore d =
+    chassisOk (d .chassis)
+    ∷ portOk (d .port)
+    ∷ wordsSound (d .words)
+    ∷ all (stringRules d)
+    ∷ linkSound (d .link)
+    ∷ listSound (d .list)
+    ∷ pick (eqb (d .seconds) 0)
+    (all (eqb (length (d .words)) 0
+    ∷ eqb (length (d .category)) 0
+    ∷ eqb (length (d .manufacturer)) 0
+    ∷ eqb (length (d .model)) 0
+    ∷ eqb (length (d .number)) 0
+    ∷ noLink (d .link)
+    ∷ noList (d .list)
+    ∷ []))
+    (all (liveRules d))
+    ∷ []
+
+-- they are asked where there are no system fields
+pub rules-without-system : (d : Said) → d .system ≡ unsaid → soundOf d ≡ all (rulesBefore d)
+unfolding soundOf
+rules-without-system d e =
+    let right : all (systemRules (d .system)) ≡ true = ap (λ (x : SystemInfo). all (systemRules x)) e in
+    let absent : all (absentRules (d .system)) ≡ true = ap (λ (x : SystemInfo). all (absentRules x)) e in
+    rw (right, absent)

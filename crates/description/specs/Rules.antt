@@ -1,5 +1,5 @@
--- When what a description says keeps the rules (W2, W3, W5, W7); that its parts lie inside the text stands in parts/specs.
--- Each rule is a list of tests, all of which must pass.
+-- When what a description says keeps the rules (W2, W3, W5, W7). Each rule is a list of tests, all of which must pass.
+-- The rules of the system fields stand in system/specs; that its parts lie inside the text is said in parts/specs.
 use Prim.Native.Nat.{ℕ, _+_, _%_}
 use mathlib.Core.List.{List, [], _∷_}
 use mathlib.Core.Bool.{Bool, true, false}
@@ -10,6 +10,7 @@ use Rattle.tally.specs.Tests.{pick, both, all}
 use Rattle.strings.specs.Text.{textOk}
 use Rattle.ids.specs.Id.{chassisOk, portOk}
 use Rattle.found.specs.Contents.{LinkInfo}
+use Rattle.system.specs.System.{systemRules, absentRules}
 use Rattle.reading.specs.Meaning.{Said}
 
 -- T10
@@ -58,6 +59,7 @@ goodbyeRules d =
     ∷ eqb (length (d .number)) 0
     ∷ noLink (d .link)
     ∷ noList (d .list)
+    ∷ all (absentRules (d .system))
     ∷ []
 
 -- W2: with seconds above 0 category and model number are there
@@ -76,6 +78,7 @@ rules d =
     ∷ all (stringRules d)
     ∷ linkSound (d .link)
     ∷ listSound (d .list)
+    ∷ all (systemRules (d .system))
     ∷ timelyOf d
     ∷ []
 

@@ -15,6 +15,8 @@ use reading::AddressList;
 use reading::Description;
 use reading::Link;
 use reading::link_parts;
+use system::system_absent;
+use system::system_fits;
 use text::Part;
 use text::text_of;
 
@@ -146,7 +148,11 @@ fn goodbye_sound(text: &[u8], d: Description) -> bool
     if !no_link(link) {
         return false;
     }
-    no_list(list)
+    if !no_list(list) {
+        return false;
+    }
+    let system = d.system;
+    system_absent(text, system)
 }
 
 // With seconds above 0 category and model number are there (W2).
@@ -193,6 +199,10 @@ pub fn is_sound(text: &[u8], d: Description) -> bool
         return false;
     }
     if !list_sound(text, list) {
+        return false;
+    }
+    let system = d.system;
+    if !system_fits(text, system) {
         return false;
     }
     is_timely(text, d)

@@ -1,4 +1,4 @@
--- Laws of what a TLV says: a topic is one of the seven, its content lies inside the information string,
+-- Laws of what a TLV says: a topic is one of those that there are, its content lies inside the information string,
 -- and only a well formed link information speaks of links.
 use Prim.{Unit, tt}
 use Prim.Native.Nat.{ℕ, _+_, _*_, _<_, _≤_}
@@ -15,27 +15,36 @@ use Rattle.strings.specs.Text.{textOk}
 use Rattle.strings.specs.Wants.{wantedOf}
 use Rattle.fields.specs.Device.{onWanted, deviceOf}
 use Rattle.links.specs.Link.{linkOk, listOk}
-use Rattle.fields.specs.Field.{link, topics, descriptionOf, linkOf, listOf, isTtc, ttcOf, fieldOf}
+use Rattle.fields.specs.Field.{link, addressList, systemName, systemDescription, capabilities, management, descriptionOf, managementOk, managementOf, linkOf, listOf, isTtc, ttcOf, fieldOf}
 use Rattle.links.proofs.LinkLaws.{link-has}
 use Rattle.strings.specs.declared.Wanted.{Wanted}
 use Rattle.strings.specs.declared.Wanted.the-variants.{Text, Free, Vendor}
 use Rattle.fields.specs.declared.Field.{Field}
 use Rattle.fields.specs.declared.Field.the-variants.{Skipped, Malformed, Says}
 
--- what holds of a content: its topic and place, and of links that they are well formed
-pub record Sound (b : List ℕ) (topic skip : ℕ) : Type 0 where
-  pub known : topic < topics
+-- what holds of a content: its topic, which is no greater than `most`, its place, and of links that they are well formed
+pub record Sound (most : ℕ) (b : List ℕ) (topic skip : ℕ) : Type 0 where
+  pub known : topic ≤ most
   pub inside : skip ≤ length b
   pub linked : topic ≡ link → (linkOk b ≡ true) × (skip ≡ 4)
 
-abbrev pub Fits : List ℕ → Field → Type 0
-Fits b Skipped = Unit {0}
-Fits b Malformed = Unit {0}
-Fits b (Says topic skip) = Sound b topic skip
+abbrev pub FitsTo : ℕ → List ℕ → Field → Type 0
+FitsTo most b Skipped = Unit {0}
+FitsTo most b Malformed = Unit {0}
+FitsTo most b (Says topic skip) = Sound most b topic skip
 
-fits-pick : (b : List ℕ) (t : Bool) (x y : Field) → (t ≡ true → Fits b x) → Fits b y → Fits b (pick t x y)
-fits-pick b true x y p q = p refl
-fits-pick b false x y p q = q
+abbrev pub Fits : List ℕ → Field → Type 0
+Fits b x = FitsTo management b x
+
+fits-pick : (most : ℕ) (b : List ℕ) (t : Bool) (x y : Field) → (t ≡ true → FitsTo most b x) → FitsTo most b y → FitsTo most b (pick t x y)
+fits-pick most b true x y p q = p refl
+fits-pick most b false x y p q = q
+
+-- what is said up to address lists is known
+fits-on : (b : List ℕ) (x : Field) → FitsTo addressList b x → Fits b x
+fits-on b Skipped h = tt
+fits-on b Malformed h = tt
+fits-on b (Says topic skip) h = record { known = omega (arith, h .known); inside = h .inside; linked = h .linked }
 
 -- only IDs 1 to 4 want a text
 wanted-small : (id most : ℕ) → wantedOf id ≡ Text most → id < link
@@ -51,10 +60,10 @@ wanted-small id most e = go (eqb id 1) refl (eqb id 2) refl (both (leb 3 id) (le
     go false p false q false r false w = let z : _≡_ {A = ℕ} 0 1 = cc in absurd (omega arith)
 
 module _ (b : List ℕ) where
-  by-wanted : (w : Wanted) (id s : ℕ) → wantedOf id ≡ w → Fits b (onWanted w (length b) id s)
+  by-wanted : (w : Wanted) (id s : ℕ) → wantedOf id ≡ w → FitsTo addressList b (onWanted w (length b) id s)
   by-wanted (Text most) id s e =
       let small = wanted-small id most e in
-      fits-pick b (all (eqb (length b) (6 + s) ∷ leb 1 s ∷ leb s most ∷ [])) (Says id 6) Malformed
+      fits-pick addressList b (all (eqb (length b) (6 + s) ∷ leb 1 s ∷ leb s most ∷ [])) (Says id 6) Malformed
       (λ t.
       record {
         known = omega arith;
@@ -62,46 +71,58 @@ module _ (b : List ℕ) where
         linked = λ q. absurd (omega arith);
       })
       tt
-  by-wanted Free id s e = fits-pick b (eqb (length b) (6 + s)) Skipped Malformed (λ t. tt) tt
+  by-wanted Free id s e = fits-pick addressList b (eqb (length b) (6 + s)) Skipped Malformed (λ t. tt) tt
   by-wanted Vendor id s e = tt
 
-  device-fits : Fits b (deviceOf b)
+  device-fits : FitsTo addressList b (deviceOf b)
   unfolding deviceOf
   device-fits =
-      fits-pick b (ltb (length b) 5) Malformed (onWanted (wantedOf (getD b 4 0)) (length b) (getD b 4 0) (getD b 5 0))
+      fits-pick addressList b (ltb (length b) 5) Malformed (onWanted (wantedOf (getD b 4 0)) (length b) (getD b 4 0) (getD b 5 0))
       (λ t. tt)
       (by-wanted (wantedOf (getD b 4 0)) (getD b 4 0) (getD b 5 0) refl)
 
-  description-fits : Fits b (descriptionOf b)
+  pub description-fits : FitsTo addressList b (descriptionOf b)
   unfolding descriptionOf
   description-fits =
-      fits-pick b (both (leb (length b) 255) (textOk b)) (Says 0 0) Malformed
+      fits-pick addressList b (both (leb (length b) 255) (textOk b)) (Says 0 0) Malformed
       (λ t. record { known = omega arith; inside = omega arith; linked = λ q. absurd (omega arith) })
       tt
 
-  link-fits : Fits b (linkOf b)
+  -- the whole information string is the content of a topic behind those of links
+  whole-fits : (topic : ℕ) → link < topic → topic ≤ management → Fits b (Says topic 0)
+  whole-fits topic h k = record { known = k; inside = omega arith; linked = λ q. absurd (omega arith) }
+
+  management-fits : Fits b (managementOf b)
+  unfolding managementOf
+  management-fits = fits-pick management b (managementOk (length b)) (Says management 0) Skipped (λ t. whole-fits management (omega arith) (omega arith)) tt
+
+  link-fits : FitsTo addressList b (linkOf b)
   unfolding linkOf
   link-fits =
-      fits-pick b (linkOk b) (Says 5 4) Malformed
+      fits-pick addressList b (linkOk b) (Says 5 4) Malformed
       (λ t. record { known = omega arith; inside = omega (arith, link-has b t .ends); linked = λ q. (t, refl) })
       tt
 
-  list-fits : Fits b (listOf b)
+  list-fits : FitsTo addressList b (listOf b)
   unfolding listOf listOk
   list-fits =
-      fits-pick b (eqb (length b) (5 + 6 * getD b 4 0)) (Says 6 5) Malformed
+      fits-pick addressList b (eqb (length b) (5 + 6 * getD b 4 0)) (Says 6 5) Malformed
       (λ t. record { known = omega arith; inside = omega (arith, eqb-true (length b) (5 + 6 * getD b 4 0) t); linked = λ q. absurd (omega arith) })
       tt
 
-  ttc-fits : Fits b (ttcOf b)
+  pub ttc-fits : FitsTo addressList b (ttcOf b)
   unfolding ttcOf
   ttc-fits =
-      fits-pick b (eqb (getD b 3 0) 1) (deviceOf b) _ (λ t. device-fits)
-      (fits-pick b (eqb (getD b 3 0) 2) (linkOf b) _ (λ t. link-fits)
-      (fits-pick b (eqb (getD b 3 0) 3) (listOf b) Skipped (λ t. list-fits) tt))
+      fits-pick addressList b (eqb (getD b 3 0) 1) (deviceOf b) _ (λ t. device-fits)
+      (fits-pick addressList b (eqb (getD b 3 0) 2) (linkOf b) _ (λ t. link-fits)
+      (fits-pick addressList b (eqb (getD b 3 0) 3) (listOf b) Skipped (λ t. list-fits) tt))
 
   pub field-fits : (kind : ℕ) → Fits b (fieldOf kind b)
   unfolding fieldOf
   field-fits kind =
-      fits-pick b (eqb kind 4) (descriptionOf b) _ (λ t. description-fits)
-      (fits-pick b (both (eqb kind 127) (isTtc b)) (ttcOf b) Skipped (λ t. ttc-fits) tt)
+      fits-pick management b (eqb kind 4) (descriptionOf b) _ (λ t. fits-on b (descriptionOf b) description-fits)
+      (fits-pick management b (eqb kind 5) (Says systemName 0) _ (λ t. whole-fits systemName (omega arith) (omega arith))
+      (fits-pick management b (eqb kind 6) (Says systemDescription 0) _ (λ t. whole-fits systemDescription (omega arith) (omega arith))
+      (fits-pick management b (eqb kind 7) (Says capabilities 0) _ (λ t. whole-fits capabilities (omega arith) (omega arith))
+      (fits-pick management b (eqb kind 8) (managementOf b) _ (λ t. management-fits)
+      (fits-pick management b (both (eqb kind 127) (isTtc b)) (ttcOf b) Skipped (λ t. fits-on b (ttcOf b) ttc-fits) tt)))))

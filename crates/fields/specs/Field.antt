@@ -34,12 +34,34 @@ link = 5
 abbrev pub addressList : ℕ
 addressList = 6
 
+abbrev pub systemName : ℕ
+systemName = 7
+
+abbrev pub systemDescription : ℕ
+systemDescription = 8
+
+abbrev pub capabilities : ℕ
+capabilities = 9
+
+-- how many topics there are of which one content is read; their numbers are below this
 abbrev pub topics : ℕ
-topics = 7
+topics = 10
+
+-- the one topic of which several contents are read (S5)
+abbrev pub management : ℕ
+management = topics
 
 -- T10
 unfoldable pub descriptionOf : List ℕ → Field
 descriptionOf b = pick (both (leb (length b) 255) (textOk b)) (Says portDescription 0) Malformed
+
+-- S3, by the number of octets
+abbrev pub managementOk : ℕ → Bool
+managementOk n = both (leb 9 n) (leb n 167)
+
+-- S3; one of a wrong length is passed over (S5)
+unfoldable pub managementOf : List ℕ → Field
+managementOf b = pick (managementOk (length b)) (Says management 0) Skipped
 
 -- T7; the content begins with n
 unfoldable pub linkOf : List ℕ → Field
@@ -60,8 +82,12 @@ ttcOf b =
     (pick (eqb (getD b 3 0) 2) (linkOf b)
     (pick (eqb (getD b 3 0) 3) (listOf b) Skipped))
 
--- by the type (L9)
+-- by the type (L9); types 5 to 7 whatever their length, since the first of each decides (S4)
 unfoldable pub fieldOf : ℕ → List ℕ → Field
 fieldOf kind b =
     pick (eqb kind 4) (descriptionOf b)
-    (pick (both (eqb kind 127) (isTtc b)) (ttcOf b) Skipped)
+    (pick (eqb kind 5) (Says systemName 0)
+    (pick (eqb kind 6) (Says systemDescription 0)
+    (pick (eqb kind 7) (Says capabilities 0)
+    (pick (eqb kind 8) (managementOf b)
+    (pick (both (eqb kind 127) (isTtc b)) (ttcOf b) Skipped)))))

@@ -1,10 +1,10 @@
 // Fields: what one TLV behind the first three says, from its own information string and nothing behind it.
-// Port description (type 4) and the TTC fields of subtypes 1 to 3; everything else is skipped.
+// Port description (type 4), system fields (types 5 to 8) and the TTC fields of subtypes 1 to 3; everything else is skipped.
 ghost use mathlib.Core.Path.{_≡_};
 ghost use Rattle.tally.specs.Tests.{pick};
 ghost use Rattle.fields.specs.Device.{deviceOf};
-ghost use Rattle.fields.specs.Field.{descriptionOf, linkOf, listOf, isTtc, ttcOf, fieldOf};
-ghost use Rattle.fields.specs.declared.Field.the-variants.{Malformed, Says};
+ghost use Rattle.fields.specs.Field.{descriptionOf, managementOk, linkOf, listOf, isTtc, ttcOf, fieldOf};
+ghost use Rattle.fields.specs.declared.Field.the-variants.{Skipped, Malformed, Says};
 use links::link_fits;
 use octets::octet;
 use strings::Wanted;
@@ -26,7 +26,17 @@ pub const LINK: usize = 5;
 
 pub const ADDRESS_LIST: usize = 6;
 
-pub const TOPICS: usize = 7;
+pub const SYSTEM_NAME: usize = 7;
+
+pub const SYSTEM_DESCRIPTION: usize = 8;
+
+pub const CAPABILITIES: usize = 9;
+
+// How many topics there are of which one content is read; their numbers are below this.
+pub const TOPICS: usize = 10;
+
+// The one topic of which several contents are read (S5).
+pub const MANAGEMENT: usize = TOPICS;
 
 // What a TLV says: nothing that is read here, something that is not well formed, or the content of a topic,
 // which is its information string without the first `skip` octets.
@@ -58,6 +68,29 @@ fn description(part: &[u8]) -> Field
         return Field::Malformed;
     }
     says_if(is_text(part), PORT_DESCRIPTION, 0)
+}
+
+// Whether a management address may have so many octets (S3).
+pub fn management_fits(n: usize) -> bool
+    ensures { λ r. ⌜ r ≡ managementOk n ⌝ }
+{
+    if n < 9 {
+        return false;
+    }
+    n <= 167
+}
+
+// A system field, whose content is its whole information string; one that is not right is passed over and spoils nothing (S5, H1).
+fn system_field(right: bool, topic: usize) -> Field
+    ensures { λ r. ⌜ r ≡ pick right (Says topic 0) Skipped ⌝ }
+{
+    if !right {
+        return Field::Skipped;
+    }
+    Field::Says {
+        topic: topic,
+        skip: 0,
+    }
 }
 
 // Device information (T2). L is compared before the string's own length is believed.
@@ -138,12 +171,16 @@ fn ttc(part: &[u8]) -> Field
     }
 }
 
-// What a TLV of a type says, given its information string.
+// What a TLV of a type says, given its information string. Types 5 to 7 are noted whatever their length: the first of each decides (S4).
 pub fn field_of(kind: u8, part: &[u8]) -> Field
     ensures { λ r. ⌜ r ≡ fieldOf kind (now (part .entry)) ⌝ }
 {
     match kind {
         4 => description(part),
+        5 => system_field(true, SYSTEM_NAME),
+        6 => system_field(true, SYSTEM_DESCRIPTION),
+        7 => system_field(true, CAPABILITIES),
+        8 => system_field(management_fits(part.len()), MANAGEMENT),
         127 => {
             if is_ttc(part) {
                 ttc(part)

@@ -7,14 +7,14 @@ use mathlib.Core.List.{List, [], _∷_, _++_, map, append-nil}
 use mathlib.Core.Bool.{Bool, true, false, not}
 use native.Mathlib.Omega.{arith}
 use native.Mathlib.Numerals.{add-one}
-use borrow.Author.Tests.{eqb-true, eqb-false, eq-eqb}
+use borrow.Author.Tests.{eqb-true, eqb-false, eq-eqb, ne-eqb}
 use lib.ListN.{length, take, drop, getD, set, length-append, length-set, length-drop, getD-replicate}
 use lib.Seq.{drop-drop, append-snoc, getD-set-same, getD-set-other, length-take-le}
 use lib.Dec.{eqb}
 use Rattle.tally.specs.Tests.{pick, both, either}
 use Rattle.octets.specs.Header.{lengthIn}
 use Rattle.octets.proofs.PartLaws.{drop-take}
-use Rattle.fields.specs.Field.{topics, fieldOf}
+use Rattle.fields.specs.Field.{topics, management, fieldOf}
 use Rattle.fields.specs.declared.Field.{Field}
 use Rattle.fields.specs.declared.Field.the-variants.{Skipped, Malformed, Says}
 use Rattle.fields.proofs.FieldLaws.{Fits, field-fits}
@@ -67,7 +67,7 @@ abbrev pub textAt : List ℕ → Mark → List ℕ
 textAt s m = take (m .len) (drop (m .start) s)
 
 -- the content behind `skip` octets of an information string, by its place
-content-lies : (s : List ℕ) (p : Placed) (skip : ℕ) → In s p
+pub content-lies : (s : List ℕ) (p : Placed) (skip : ℕ) → In s p
     → take (length (p .tlv .body) - skip) (drop (p .start + skip) s) ≡ drop skip (p .tlv .body)
 content-lies s p skip i =
     let n = length (p .tlv .body) in
@@ -105,19 +105,23 @@ means-more s m (x ∷ cs) c start len f e i =
 
 -- What is gathered
 
-abbrev tlvOf : Placed → Tlv
+abbrev pub tlvOf : Placed → Tlv
 tlvOf p = p .tlv
 
 module _ (s : List ℕ) (topic : ℕ) (known : topic < topics) where
+  -- marks with the contents that were met of the topic, where those and what is to come are `whole`
+  abbrev Marked : List Mark → List (List ℕ) → List (List ℕ) → Type 0
+  Marked marks whole more =
+      (c : List (List ℕ)) × ((whole ≡ c ++ more) × ((length marks ≡ topics) × Means s (getD marks topic unmarked) c))
+
   -- one TLV more
   noted-means : (f : Found) (p : Placed) (cs : List (List ℕ)) → length (f .marks) ≡ topics → In s p → Means s (markOf topic f) cs
       → (x : Field) → Fits (p .tlv .body) x → (more : List (List ℕ))
-      → (c : List (List ℕ)) × ((cs ++ onField x topic (p .tlv .body) more ≡ c ++ more)
-      × ((length (noted f x (p .start) (length (p .tlv .body)) .marks) ≡ topics) × Means s (markOf topic (noted f x (p .start) (length (p .tlv .body)))) c))
+      → Marked (noted f x (p .start) (length (p .tlv .body)) .marks) (cs ++ onField x topic (p .tlv .body) more) more
   unfolding noted
   noted-means f p cs l i m Skipped h more = (cs, (refl, (l, m)))
   noted-means f p cs l i m Malformed h more = (cs, (refl, (l, m)))
-  noted-means f p cs l i m (Says n skip) h more = go (eqb topic n) refl
+  noted-means f p cs l i m (Says n skip) h more = at (eqb n management) refl
     where
       b : List ℕ
       b = p .tlv .body
@@ -128,17 +132,21 @@ module _ (s : List ℕ) (topic : ℕ) (known : topic < topics) where
       long : length (set (f .marks) n put) ≡ topics
       long = length-set (f .marks) n put ∙ l
 
-      go : (t : Bool) → eqb topic n ≡ t
-          → (c : List (List ℕ)) × ((cs ++ pick t (drop skip (p .tlv .body) ∷ more) more ≡ c ++ more)
-          × ((length (set (f .marks) n put) ≡ topics) × Means s (getD (set (f .marks) n put) topic unmarked) c))
+      go : (t : Bool) → eqb topic n ≡ t → Marked (set (f .marks) n put) (cs ++ pick t (drop skip (p .tlv .body) ∷ more) more) more
       go true e =
           let same : topic ≡ n = eqb-true topic n e in
-          let at : getD (set (f .marks) n put) n unmarked ≡ put = getD-set-same (f .marks) n put unmarked (omega (arith, h .known)) in
+          let at : getD (set (f .marks) n put) n unmarked ≡ put = getD-set-same (f .marks) n put unmarked (omega arith) in
           let made = means-more s (markOf topic f) cs (drop skip b) (p .start + skip) (length b - skip) (omega (arith, i .fits, h .inside)) (content-lies s p skip i) m in
           (cs ++ (drop skip b ∷ []), (sym (append-snoc cs (drop skip b) more), (long, rw (same, at) (rw same at made))))
       go false e =
           let at : getD (set (f .marks) n put) topic unmarked ≡ markOf topic f = getD-set-other (f .marks) n topic put unmarked (eqb-false topic n e) in
           (cs, (refl, (long, rw at m)))
+
+      -- a management address leaves the marks as they are
+      at : (t : Bool) → eqb n management ≡ t
+          → Marked (pick t (f .marks) (set (f .marks) n put)) (cs ++ pick (eqb topic n) (drop skip (p .tlv .body) ∷ more) more) more
+      at true e = rw (ne-eqb topic n (λ q. omega (arith, eqb-true n management e))) (cs, (refl, (l, m)))
+      at false e = go (eqb topic n) refl
 
   gather-means : (f : Found) (ps : List Placed) (cs : List (List ℕ)) → length (f .marks) ≡ topics → AllIn s ps → Means s (markOf topic f) cs
       → Means s (markOf topic (gather f ps)) (cs ++ contents topic (map tlvOf ps))

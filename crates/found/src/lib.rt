@@ -1,12 +1,15 @@
-// What the TLVs behind the first three say, gathered in one pass: for each topic how often and where first.
-// A content is remembered as its place in the LLDPDU, so that nothing is copied.
+// What the TLVs behind the first three say, gathered in one pass: for each topic how often and where first,
+// and where the management addresses are. A content is remembered as its place in the LLDPDU, so that nothing is copied.
 ghost use mathlib.Core.Path.{_≡_};
-ghost use Prim.Native.Nat.{_+_, _^_, _<_};
 ghost use lib.ListN.{drop};
 ghost use Rattle.walk.specs.Walk.{walk};
-ghost use Rattle.found.specs.Found.{Within, nothing, markedAt, noted, gather, htipIn};
+ghost use Rattle.found.specs.Found.{nothing, partAt, markedAt, gather, htipIn};
 use fields::Field;
 use fields::field_of;
+use text::Part;
+use text::Parts;
+use text::empty_parts;
+use text::with_part;
 use walk::Step;
 use walk::step_at;
 
@@ -20,6 +23,17 @@ pub struct Mark {
 pub struct Found {
     pub marks: [Mark; fields::TOPICS],
     pub malformed: bool,
+    pub management: Parts,
+}
+
+// The part of the LLDPDU that a mark delimits.
+pub fn part_at(m: Mark) -> Part
+    ensures { λ r. ⌜ r ≡ partAt m ⌝ }
+{
+    Part {
+        start: m.start,
+        len: m.len,
+    }
 }
 
 // The first stays; that there was another is known (A2, H1).
@@ -39,39 +53,26 @@ fn marked(m: Mark, start: usize, len: usize) -> Mark
     again
 }
 
-// What was found, with one TLV more, whose information string lies at start and has len octets.
-fn note(found: Found, field: Field, start: usize, len: usize) -> Found
-    requires { ⌜ Within field len × (start + len < 2 ^ 63) ⌝ }
-    ensures { λ r. ⌜ r ≡ noted found field start len ⌝ }
+fn nothing_found() -> Found
+    ensures { λ r. ⌜ r ≡ nothing ⌝ }
 {
-    let mut next = found;
-    match field {
-        Field::Skipped => next,
-        Field::Malformed => {
-            next.malformed = true;
-            next
-        }
-        Field::Says { topic, skip } => {
-            let m = marked(next.marks[topic], start + skip, len - skip);
-            next.marks[topic] = m;
-            next
-        }
-    }
-}
-
-// The fields from a place on, to End.
-pub fn gathered(s: &[u8], from: usize) -> Found
-    ensures { λ r. ⌜ r ≡ gather nothing (walk (drop from (now (s .entry))) 0 from .tlvs) ⌝ }
-{
-    let mut at = from;
-    let mut found = Found {
+    Found {
         marks: [Mark {
             times: 0,
             start: 0,
             len: 0,
         }; fields::TOPICS],
         malformed: false,
-    };
+        management: empty_parts(),
+    }
+}
+
+// The fields from a place on, to End. What was found is changed where it stands, since to hand it on costs more than to read a TLV.
+pub fn gathered(s: &[u8], from: usize) -> Found
+    ensures { λ r. ⌜ r ≡ gather nothing (walk (drop from (now (s .entry))) 0 from .tlvs) ⌝ }
+{
+    let mut at = from;
+    let mut found = nothing_found();
     loop {
         match step_at(s, at) {
             Step::Refused(_) => {
@@ -82,8 +83,28 @@ pub fn gathered(s: &[u8], from: usize) -> Found
             }
             Step::Next { kind, start, len } => {
                 let end = start + len;
-                found = note(found, field_of(kind, &s[start..end]), start, len);
                 at = end;
+                match field_of(kind, &s[start..end]) {
+                    Field::Skipped => {
+                        continue;
+                    }
+                    Field::Malformed => {
+                        found.malformed = true;
+                        continue;
+                    }
+                    Field::Says { topic, skip } => {
+                        // where the content begins, and how many octets it has
+                        let b = start + skip;
+                        let n = len - skip;
+                        if topic == fields::MANAGEMENT {
+                            let kept = found.management;
+                            found.management = with_part(kept, Part { start: b, len: n });
+                            continue;
+                        }
+                        let m = marked(found.marks[topic], b, n);
+                        found.marks[topic] = m;
+                    }
+                }
             }
         }
     }

@@ -1,3 +1,4 @@
--- Two answers that the contract of `all_inside` allows are one.
--- Beside those of tests, the one law that a function needs stands with its proof.
+-- The law of the loop over several parts, and that two answers of one contract coincide.
+-- Beside those of tests, the one law that another function needs stands with its proof.
+pub mod InsideLaws
 pub mod Sole

@@ -1,12 +1,17 @@
 // Whether every part of a description lies inside the text that is lent with it (W7).
 // An empty part must lie inside too; a part that begins at the end of the text does.
 ghost use mathlib.Core.Path.{_≡_};
-ghost use Rattle.parts.specs.Inside.{partInside, linkInside, listInside, allInside};
+ghost use Rattle.tally.specs.Tests.{all};
+ghost use Rattle.parts.specs.Inside.{partInside, partsInside, systemInside, linkInside, listInside, allInside};
 use reading::AddressList;
 use reading::Description;
 use reading::Link;
 use reading::link_parts;
+use system::System;
+use text::MOST_PARTS;
 use text::Part;
+use text::Parts;
+use text::nth_part;
 
 // In a text of n octets.
 fn part_inside(n: usize, p: Part) -> bool
@@ -16,6 +21,35 @@ fn part_inside(n: usize, p: Part) -> bool
         return false;
     }
     p.len <= n - p.start
+}
+
+// Each part below the count; a count above the most says of parts that there are not (W7).
+fn parts_inside(n: usize, l: Parts) -> bool
+    ensures { λ r. ⌜ r ≡ partsInside n l ⌝ }
+{
+    let count = l.count;
+    if count > MOST_PARTS {
+        return false;
+    }
+    for i in 0..count {
+        if part_inside(n, nth_part(l, i)) {} else {
+            return false;
+        }
+    }
+    true
+}
+
+fn system_inside(n: usize, x: System) -> bool
+    ensures { λ r. ⌜ r ≡ all (systemInside n x) ⌝ }
+{
+    if !part_inside(n, x.name) {
+        return false;
+    }
+    if !part_inside(n, x.description) {
+        return false;
+    }
+    let management = x.management;
+    parts_inside(n, management)
 }
 
 // The empty parts of an absent one lie inside every text.
@@ -72,5 +106,9 @@ pub fn all_inside(n: usize, d: Description) -> bool
     if !link_inside(n, link) {
         return false;
     }
-    list_inside(n, list)
+    if !list_inside(n, list) {
+        return false;
+    }
+    let system = d.system;
+    system_inside(n, system)
 }

@@ -1,10 +1,10 @@
--- The bench frames B1 to B12 and B14 to B16: one table of frames and answers, and one computed test of it against the rules.
+-- The bench frames B1 to B12 and B14 to B20: one table of frames and answers, and one computed test of it against the rules.
 -- Verdicts, lengths and every field are in it; the code's answers mean the same by its contract. Then frame A from other sources (F4).
 use Prim.Native.Nat.{ℕ}
 use mathlib.Core.Path.{_≡_, refl}
 use mathlib.Core.List.{List, [], _∷_, _++_, map}
 use mathlib.Core.Bool.{Bool, true, false}
-use mathlib.Core.Option.{none}
+use mathlib.Core.Option.{none, some}
 use lib.ListN.{take, drop, replicate}
 use Rattle.tally.specs.Ranges.{allBelow}
 use Rattle.octets.specs.Address.{sixAt, sameOctets, isGroup}
@@ -12,11 +12,12 @@ use Rattle.strings.specs.Text.{charOk, textOk}
 use Rattle.strings.specs.Wants.{wantedOf}
 use Rattle.fields.specs.Device.{deviceOf}
 use Rattle.links.specs.Link.{linkOk, listOk}
-use Rattle.fields.specs.Field.{descriptionOf, linkOf, listOf, isTtc, ttcOf, fieldOf}
+use Rattle.fields.specs.Field.{descriptionOf, managementOf, linkOf, listOf, isTtc, ttcOf, fieldOf}
 use Rattle.walk.specs.Walk.{headOf, stepOf, walk}
 use Rattle.ids.specs.Id.{Id, id, chassisOk, portOk}
 use Rattle.lldpdu.specs.Extent.{portPlace, secondsPlace, behindPort, behindChassis, extentOf}
 use Rattle.found.specs.Contents.{contents, wellFormed, htipOf}
+use Rattle.system.specs.System.{SystemInfo, flags, ofType, rightOnes, unsaid}
 use Rattle.reading.specs.Meaning.{ReaderAnswer, refusedAnswer, answerOf}
 use Rattle.reader.specs.Frame.{everyone, nearest, frameOk, onFrame}
 
@@ -48,9 +49,9 @@ first = chassis ++ port ++ seconds
 abbrev frame-a : List ℕ
 frame-a = header ++ first ++ category ++ number ++ end
 
--- a valid frame of n octets, with chassis c, verdict h and category k
-abbrev from : Id → ℕ → Bool → List ℕ → ReaderAnswer
-from c n h k =
+-- a valid frame of n octets, with chassis c, verdict h, category k and system fields x
+abbrev from : Id → ℕ → Bool → List ℕ → SystemInfo → ReaderAnswer
+from c n h k x =
     record {
       refusal = 0;
       octets = n;
@@ -67,16 +68,27 @@ from c n h k =
             number = 0x37 ∷ [];
             link = none;
             list = none;
+            system = x;
           };
     }
 
--- the same with the chassis of frame A
+-- the same with the chassis of frame A, without system fields; and with its category too, HTIP and with system fields
+abbrev address : Id
+address = id 4 (0x02 ∷ 0x00 ∷ 0x00 ∷ 0x00 ∷ 0x00 ∷ 0x01 ∷ [])
+
 abbrev valid : ℕ → Bool → List ℕ → ReaderAnswer
-valid = from (id 4 (0x02 ∷ 0x00 ∷ 0x00 ∷ 0x00 ∷ 0x00 ∷ 0x01 ∷ []))
+valid n h k = from address n h k unsaid
+
+abbrev saying : ℕ → SystemInfo → ReaderAnswer
+saying n x = from address n true (0x41 ∷ []) x
 
 -- frame A with another TLV 1
 abbrev behind : List ℕ → List ℕ
 behind c = header ++ c ++ port ++ seconds ++ category ++ number ++ end
+
+-- frame A with TLVs put before the End
+abbrev with : List ℕ → List ℕ
+with x = header ++ first ++ category ++ number ++ x ++ end
 
 pub record Case : Type 0 where
   pub frame : List ℕ
@@ -89,6 +101,13 @@ case f a = record { frame = f; answer = a }
 abbrev eight : List ℕ
 eight = 0x02 ∷ 0x00 ∷ 0x00 ∷ 0xFF ∷ 0xFE ∷ 0x00 ∷ 0x00 ∷ 0x01 ∷ []
 
+-- a management address of nine octets, by its last one, and its TLV
+abbrev managed : ℕ → List ℕ
+managed i = 0x05 ∷ 0x01 ∷ 0x0A ∷ 0x00 ∷ 0x00 ∷ 0x01 ∷ 0x02 ∷ 0x00 ∷ i ∷ []
+
+abbrev management : ℕ → List ℕ
+management i = 0x10 ∷ 0x09 ∷ managed i
+
 abbrev pub bench : List Case
 bench =
     case frame-a (valid 37 true (0x41 ∷ []))
@@ -99,17 +118,23 @@ bench =
     ∷ case (take 12 frame-a ++ 0x08 ∷ 0x00 ∷ drop 14 frame-a) (refusedAnswer 3)
     ∷ case (behind (0x02 ∷ 0x06 ∷ 0x04 ∷ 0x02 ∷ 0x00 ∷ 0x00 ∷ 0x00 ∷ 0x00 ∷ [])) (refusedAnswer 4)
     ∷ case (header ++ chassis ++ port ++ (0x06 ∷ 0x03 ∷ 0x00 ∷ 0x78 ∷ 0x00 ∷ []) ++ category ++ number ++ end) (refusedAnswer 4)
-    ∷ case (header ++ first ++ category ++ number ++ (0x06 ∷ 0x02 ∷ 0x00 ∷ 0x78 ∷ []) ++ end) (refusedAnswer 6)
-    ∷ case (header ++ first ++ category ++ number ++ (0xFE ∷ 0x03 ∷ 0xE0 ∷ 0x27 ∷ 0x1A ∷ []) ++ end) (refusedAnswer 6)
+    ∷ case (with (0x06 ∷ 0x02 ∷ 0x00 ∷ 0x78 ∷ [])) (refusedAnswer 6)
+    ∷ case (with (0xFE ∷ 0x03 ∷ 0xE0 ∷ 0x27 ∷ 0x1A ∷ [])) (refusedAnswer 6)
     ∷ case (header ++ first ++ (0xFE ∷ 0x05 ∷ 0xE0 ∷ 0x27 ∷ 0x1A ∷ 0x01 ∷ 0x01 ∷ []) ++ number ++ end) (valid 35 false [])
     ∷ case (header ++ first ++ (0xFE ∷ 0x07 ∷ 0xE0 ∷ 0x27 ∷ 0x1A ∷ 0x01 ∷ 0x01 ∷ 0x02 ∷ 0x41 ∷ []) ++ number ++ end) (valid 37 false [])
-    ∷ case (behind (0x02 ∷ 0x09 ∷ 0x04 ∷ eight)) (from (id 4 eight) 39 true (0x41 ∷ []))
-    ∷ case (behind (0x02 ∷ 0x03 ∷ 0x07 ∷ 0x41 ∷ 0x46 ∷ [])) (from (id 7 (0x41 ∷ 0x46 ∷ [])) 33 true (0x41 ∷ []))
+    ∷ case (behind (0x02 ∷ 0x09 ∷ 0x04 ∷ eight)) (from (id 4 eight) 39 true (0x41 ∷ []) unsaid)
+    ∷ case (behind (0x02 ∷ 0x03 ∷ 0x07 ∷ 0x41 ∷ 0x46 ∷ [])) (from (id 7 (0x41 ∷ 0x46 ∷ [])) 33 true (0x41 ∷ []) unsaid)
     ∷ case (behind (0x02 ∷ 0x43 ∷ 0x07 ∷ replicate 66 0x30)) (refusedAnswer 4)
+    ∷ case (with ((0x0A ∷ 0x02 ∷ 0x73 ∷ 0x77 ∷ 0x0C ∷ 0x01 ∷ 0x78 ∷ 0x0E ∷ 0x04 ∷ 0x00 ∷ 0x14 ∷ 0x00 ∷ 0x04 ∷ []) ++ management 1))
+    (saying 61 (record { name = 0x73 ∷ 0x77 ∷ []; description = 0x78 ∷ []; capabilities = some (flags 20 4); management = managed 1 ∷ [] }))
+    ∷ case (with ((0x0B ∷ 0x00 ∷ replicate 256 0x41) ++ (0x0A ∷ 0x01 ∷ 0x42 ∷ []))) (saying 298 unsaid)
+    ∷ case (with (0x0E ∷ 0x05 ∷ 0x00 ∷ 0x14 ∷ 0x00 ∷ 0x04 ∷ 0x00 ∷ 0x0E ∷ 0x04 ∷ 0x00 ∷ 0x14 ∷ 0x00 ∷ 0x04 ∷ [])) (saying 50 unsaid)
+    ∷ case (with ((0x10 ∷ 0x08 ∷ replicate 8 0x00) ++ (management 1 ++ management 2 ++ management 3 ++ management 4 ++ management 5)))
+    (saying 102 (record { name = []; description = []; capabilities = none; management = managed 1 ∷ managed 2 ∷ managed 3 ∷ managed 4 ∷ [] }))
     ∷ []
 
 pub bench-right : map (λ (c : Case). onFrame (refusedAnswer 3) answerOf (c .frame)) bench ≡ map (λ (c : Case). c .answer) bench
-unfolding sixAt sameOctets isGroup charOk textOk wantedOf deviceOf linkOk listOk descriptionOf linkOf listOf isTtc ttcOf fieldOf headOf stepOf walk allBelow chassisOk portOk portPlace secondsPlace behindPort behindChassis extentOf contents wellFormed htipOf answerOf frameOk onFrame
+unfolding sixAt sameOctets isGroup charOk textOk wantedOf deviceOf linkOk listOk descriptionOf linkOf listOf isTtc ttcOf fieldOf headOf stepOf walk allBelow chassisOk portOk portPlace secondsPlace behindPort behindChassis extentOf contents wellFormed htipOf ofType rightOnes managementOf answerOf frameOk onFrame
 bench-right = refl
 
 -- Frame A from other sources (F4)

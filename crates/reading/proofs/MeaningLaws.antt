@@ -1,4 +1,4 @@
--- The reading means the answer of the rules: texts, link information and address list, beside the verdict.
+-- The reading means the answer of the rules: texts, link information, address list and system fields, beside the verdict.
 -- `reading-means` is the theorem; the code cites `ready`, `assembled` and `reads-exactly`.
 use Prim.{Unit, tt}
 use Prim.Native.Nat.{ℕ, zero, suc, _+_, _*_, _<_, _≤_}
@@ -30,6 +30,7 @@ use Rattle.reading.specs.Meaning.{firstLink, firstList, saidIn, answerAt
 use Rattle.lldpdu.proofs.ExtentLaws.{outline-extent}
 use Rattle.found.proofs.MarkLaws.{AllIn, walk-in, textAt, upTo2, Means, topic-means}
 use Rattle.found.proofs.VerdictLaws.{htip-means}
+use Rattle.system.proofs.SystemLaws.{system-means}
 use Rattle.walk.specs.declared.Extent.{Extent}
 use Rattle.walk.specs.declared.Extent.the-variants.{Refused, Octets}
 use Rattle.lldpdu.specs.declared.outline.Outline.{Outline}
@@ -160,6 +161,7 @@ said-means s e =
       m modelNumber (omega arith) .text,
       link-means s (markOf link (foundIn s)) (contents link (tlvsIn s)) (contents-end (tlvsIn s)) (m link (omega arith)),
       list-means s (markOf addressList (foundIn s)) (contents addressList (tlvsIn s)) (m addressList (omega arith)),
+      system-means s (restOf s .tlvs) (rest-in s),
     )
 
 pub reading-means : (s : List ℕ) → meant s (readingOf s) ≡ answerOf s

@@ -13,6 +13,7 @@ use Rattle.ids.specs.Id.{Id, id, idMeant}
 use Rattle.lldpdu.specs.Extent.{refusalOfExtent, octetsIn, portPlace, idIn, extentOf}
 use Rattle.lldpdu.specs.Outline.{secondsIn}
 use Rattle.text.specs.Part.{textOf}
+use Rattle.system.specs.System.{SystemInfo, systemIn, unsaid, systemMeant}
 use Rattle.reading.specs.Reading.{readingOf}
 use Rattle.walk.specs.declared.Extent.{Extent}
 use Rattle.walk.specs.declared.Extent.the-variants.{Refused, Octets}
@@ -36,6 +37,7 @@ pub record Said : Type 0 where
   pub number : List ℕ
   pub link : Option LinkInfo
   pub list : Option (List ℕ)
+  pub system : SystemInfo
 
 -- an absent link information and an absent list differ from empty ones (A3)
 abbrev pub firstLink : List (List ℕ) → Option LinkInfo
@@ -60,6 +62,7 @@ saidIn s ts =
       number = first (contents modelNumber ts);
       link = firstLink (contents link ts);
       list = firstList (contents addressList ts);
+      system = systemIn ts;
     }
 
 -- The answer (A1): a refusal number, 0 where there is none, and what stands beside it
@@ -88,6 +91,7 @@ refusedAnswer n =
             number = [];
             link = none;
             list = none;
+            system = unsaid;
           };
     }
 
@@ -121,6 +125,7 @@ saidBy s d =
       number = textOf s (d .number);
       link = linkMeant s (d .link);
       list = listMeant s (d .list);
+      system = systemMeant s (d .system);
     }
 
 abbrev pub meant : List ℕ → Reading → ReaderAnswer

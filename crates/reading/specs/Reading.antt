@@ -9,11 +9,11 @@ use Rattle.links.specs.Link.{typeCount, numberCount, addressCount}
 use Rattle.fields.specs.Field.{portDescription, category, manufacturer, modelName, modelNumber, link, addressList}
 use Rattle.lldpdu.specs.Extent.{restOf, extentOf}
 use Rattle.lldpdu.specs.Outline.{noId, outlineAt}
-use Rattle.text.specs.Part.{part, textOf}
-use Rattle.found.specs.Found.{markOf, nothing, gather, htipIn}
+use Rattle.text.specs.Part.{part, nowhere, textOf}
+use Rattle.found.specs.Found.{partAt, markOf, nothing, gather, htipIn}
+use Rattle.system.specs.System.{systemAt, emptySystem}
 use Rattle.walk.specs.declared.Extent.{Extent}
 use Rattle.walk.specs.declared.Extent.the-variants.{Refused, Octets}
-use Rattle.text.specs.declared.Part.{Part}
 use Rattle.lldpdu.specs.declared.outline.Outline.{Outline}
 use Rattle.found.specs.declared.Mark.{Mark}
 use Rattle.found.specs.declared.Found.{Found}
@@ -24,9 +24,6 @@ use Rattle.reading.specs.declared.AddressList.{AddressList}
 use Rattle.reading.specs.declared.AddressList.the-variants as list-is
 use Rattle.reading.specs.declared.Description.{Description}
 use Rattle.reading.specs.declared.Reading.{Reading}
-
-abbrev pub partAt : Mark → Part
-partAt m = part (m .start) (m .len)
 
 -- n, the interface type, m, the port number, k and the addresses, from a place on (T7)
 abbrev pub tableAt : ℕ → ℕ → ℕ → ℕ → Link
@@ -45,7 +42,7 @@ listAt m = pick (eqb (m .times) 0) list-is.Absent (list-is.Listed (partAt m))
 
 -- link information taken apart; absent, its parts are empty (A3)
 abbrev pub linkParts : Link → LinkParts
-linkParts link-is.Absent = record { there = false; interface = part 0 0; port = part 0 0; addresses = part 0 0 }
+linkParts link-is.Absent = record { there = false; interface = nowhere; port = nowhere; addresses = nowhere }
 linkParts (link-is.Table i p a) = record { there = true; interface = i; port = p; addresses = a }
 
 -- chassis, port ID and seconds are those of the outline o
@@ -62,6 +59,7 @@ descriptionAt s o f =
       number = partAt (markOf modelNumber f);
       link = linkAt s (markOf link f);
       list = listAt (markOf addressList f);
+      system = systemAt s f;
     }
 
 abbrev pub foundIn : List ℕ → Found
@@ -77,13 +75,14 @@ refusedReading n =
             chassis = noId;
             port = noId;
             seconds = 0;
-            words = part 0 0;
-            category = part 0 0;
-            manufacturer = part 0 0;
-            model = part 0 0;
-            number = part 0 0;
+            words = nowhere;
+            category = nowhere;
+            manufacturer = nowhere;
+            model = nowhere;
+            number = nowhere;
             link = link-is.Absent;
             list = list-is.Absent;
+            system = emptySystem;
           };
     }
 

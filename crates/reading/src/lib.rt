@@ -5,18 +5,22 @@ ghost use Prim.Native.Nat.{_^_, _<_, _≤_};
 ghost use lib.ListN.{length};
 ghost use Rattle.fields.specs.Field.{link};
 ghost use Rattle.found.specs.Found.{markOf};
-ghost use Rattle.reading.specs.Reading.{partAt, tableIn, linkAt, listAt, linkParts, descriptionAt, refusedReading};
+ghost use Rattle.reading.specs.Reading.{tableIn, linkAt, listAt, linkParts, descriptionAt, refusedReading};
 ghost use Rattle.reading.specs.Meaning.{Reads};
 use found::Found;
 use found::Mark;
 use found::gathered;
 use found::is_htip;
+use found::part_at;
 use lldpdu::Extent;
 use lldpdu::IdPart;
 use lldpdu::Outline;
 use lldpdu::outline_lldpdu;
 use lldpdu::rest_place;
 use octets::octet;
+use system::System;
+use system::empty_system;
+use system::system_at;
 use text::Part;
 use text::text_of;
 
@@ -50,6 +54,8 @@ pub struct Description {
     pub number: Part,
     pub link: Link,
     pub list: AddressList,
+    // the standard's own fields (S1 to S5)
+    pub system: System,
 }
 
 pub struct Reading {
@@ -89,15 +95,6 @@ pub fn link_parts(l: Link) -> LinkParts
             port: port,
             addresses: addresses,
         },
-    }
-}
-
-fn part_at(m: Mark) -> Part
-    ensures { λ r. ⌜ r ≡ partAt m ⌝ }
-{
-    Part {
-        start: m.start,
-        len: m.len,
     }
 }
 
@@ -165,6 +162,7 @@ fn description_at(s: &[u8], o: Outline, found: Found) -> Description
         number: part_at(found.marks[fields::MODEL_NUMBER]),
         link: link_at(s, found.marks[fields::LINK]),
         list: list_at(found.marks[fields::ADDRESS_LIST]),
+        system: system_at(s, found),
     }
 }
 
@@ -190,6 +188,7 @@ pub fn refused_reading(n: u8) -> Reading
             number: none,
             link: Link::Absent,
             list: AddressList::Absent,
+            system: empty_system(),
         },
     }
 }

@@ -2,6 +2,7 @@
 -- They hold for any test.
 use Prim.Native.Nat.{ℕ, zero, suc, _+_, _-_, _<_, _≤_}
 use mathlib.Core.Path.{_≡_, refl, sym, ap, _∙_}
+use mathlib.Core.List.{List, [], _∷_, map}
 use mathlib.Core.Bool.{Bool, true, false}
 use mathlib.Core.Logic.{⊎-elim}
 use native.Mathlib.Nat.{eq-or-lt-of-le, le-of-suc-le-suc, not-suc-le-zero}
@@ -9,9 +10,10 @@ use native.Mathlib.Omega.{arith}
 use native.Mathlib.Numerals.{add-one}
 use borrow.Author.Tests.{eqb-true, eqb-false}
 use lib.Dec.{eqb}
-use Rattle.tally.specs.Tests.{either}
+use lib.ListN.{length, getD}
+use Rattle.tally.specs.Tests.{both, either, all}
 use Rattle.tally.specs.Ranges.{allBelow, someBelow}
-use Rattle.tally.proofs.TestsLaws.{both-false, either-right}
+use Rattle.tally.proofs.TestsLaws.{both-end, both-false, either-right}
 
 -- Every one
 
@@ -45,6 +47,22 @@ module _ (f : ℕ → Bool) where
 -- from one computed test of the n numbers from lo on to the rule at each of them
 pub in-range : (p : ℕ → Bool) (lo n b : ℕ) → allBelow (λ d. p (lo + d)) n ≡ true → lo ≤ b → b < lo + n → p b ≡ true
 in-range p lo n b e h k = ap p (omega arith) ∙ all-true (λ d. p (lo + d)) n e (b - lo) (omega arith)
+
+-- a test asked of each of a list, by the numbers of its elements: what a loop over the list cites at its end
+
+all-first : (f : ℕ → Bool) (n : ℕ) → allBelow f (suc n) ≡ both (f 0) (allBelow (λ k. f (suc k)) n)
+unfolding allBelow
+all-first f zero = sym (both-end (f 0))
+all-first f (suc n) = rw (all-first f n) (moved (f 0))
+  where
+    moved : (a : Bool) → both (both a (allBelow (λ k. f (suc k)) n)) (f (suc n)) ≡ both a (both (allBelow (λ k. f (suc k)) n) (f (suc n)))
+    moved true = refl
+    moved false = refl
+
+pub all-listed : {A : Type 0} (f : A → Bool) (l : List A) (d : A) → allBelow (λ k. f (getD l k d)) (length l) ≡ all (map f l)
+unfolding allBelow
+all-listed f [] d = refl
+all-listed f (x ∷ l) d = all-first (λ k. f (getD (x ∷ l) k d)) (length l) ∙ ap (both (f x)) (all-listed f l d)
 
 -- Some one
 

@@ -1,3 +1,4 @@
--- What holds of every answer of this crate.
--- The laws of parts themselves are octets' (PartLaws).
+-- What holds of several parts, and of every answer of this crate.
+-- The laws of one part are octets' (PartLaws).
+pub mod PartsLaws
 pub mod Sole

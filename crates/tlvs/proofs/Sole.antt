@@ -8,8 +8,12 @@ use Rattle.tlvs.proofs.put_id.Kinds as id-kinds
 use Rattle.tlvs.proofs.put_id.Reads as id
 use Rattle.tlvs.proofs.put_seconds.Kinds as seconds-kinds
 use Rattle.tlvs.proofs.put_seconds.Reads as seconds
-use Rattle.tlvs.proofs.put_words.Kinds as words-kinds
-use Rattle.tlvs.proofs.put_words.Reads as words
+use Rattle.tlvs.proofs.put_tlv.Kinds as tlv-kinds
+use Rattle.tlvs.proofs.put_tlv.Reads as tlv
+use Rattle.tlvs.proofs.put_string.Kinds as string-kinds
+use Rattle.tlvs.proofs.put_string.Reads as string
+use Rattle.tlvs.proofs.put_flags.Kinds as flags-kinds
+use Rattle.tlvs.proofs.put_flags.Reads as flags
 use Rattle.tlvs.proofs.put_device.Kinds as device-kinds
 use Rattle.tlvs.proofs.put_device.Reads as device
 use Rattle.tlvs.proofs.put_table.Kinds as table-kinds
@@ -26,8 +30,14 @@ put-id-sole κs a r q x y = same-put
 pub put-seconds-sole : SolePut 1 seconds-kinds.ps seconds-kinds.r seconds.Post (λ κs x. now (x .0))
 put-seconds-sole κs a r q x y = same-put
 
-pub put-words-sole : SolePut 2 words-kinds.ps words-kinds.r words.Post (λ κs x. now (x .0))
-put-words-sole κs a r q x y = same-put
+pub put-tlv-sole : SolePut 2 tlv-kinds.ps tlv-kinds.r tlv.Post (λ κs x. now (x .0))
+put-tlv-sole κs a r q x y = same-put
+
+pub put-string-sole : SolePut 2 string-kinds.ps string-kinds.r string.Post (λ κs x. now (x .0))
+put-string-sole κs a r q x y = same-put
+
+pub put-flags-sole : SolePut 1 flags-kinds.ps flags-kinds.r flags.Post (λ κs x. now (x .0))
+put-flags-sole κs a r q x y = same-put
 
 pub put-device-sole : SolePut 2 device-kinds.ps device-kinds.r device.Post (λ κs x. now (x .0))
 put-device-sole κs a r q x y = same-put

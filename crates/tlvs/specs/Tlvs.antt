@@ -1,5 +1,5 @@
--- The TLVs that the writer writes (L1 to L7, T1 to T10), and their octets.
--- An empty string is absent and has no TLV; so have absent link information and an absent address list.
+-- The TLVs that the writer writes (L1 to L7, T1 to T10, S1 to S3), and their octets.
+-- An empty string is absent and has no TLV. Nor have absent capabilities, absent link information and an absent address list.
 use Prim.Native.Nat.{ℕ, _/_, _%_}
 use mathlib.Core.List.{List, [], _∷_, _++_}
 use mathlib.Core.Option.{Option, none, some}
@@ -11,6 +11,7 @@ use Rattle.octets.specs.Header.{high, low}
 use Rattle.ids.specs.Id.{Id}
 use Rattle.walk.specs.Walk.{Tlv}
 use Rattle.found.specs.Contents.{LinkInfo}
+use Rattle.system.specs.System.{Flags}
 
 abbrev pub tlv : ℕ → List ℕ → Tlv
 tlv kind body = record { kind = kind; body = body }
@@ -41,10 +42,22 @@ secondsTlv seconds = tlv 3 (seconds / 256 ∷ seconds % 256 ∷ [])
 abbrev pub endTlv : Tlv
 endTlv = tlv 0 []
 
--- The fields: a port description (T10), and TTC fields (T1)
+-- The fields: a port description (T10), the system fields (S1 to S3), and TTC fields (T1)
 
 abbrev pub wordsTlv : List ℕ → Tlv
 wordsTlv words = tlv 4 words
+
+abbrev pub nameTlv : List ℕ → Tlv
+nameTlv name = tlv 5 name
+
+abbrev pub systemDescriptionTlv : List ℕ → Tlv
+systemDescriptionTlv description = tlv 6 description
+
+abbrev pub flagsTlv : Flags → Tlv
+flagsTlv f = tlv 7 (f .able / 256 ∷ f .able % 256 ∷ f .enabled / 256 ∷ f .enabled % 256 ∷ [])
+
+abbrev pub managementTlv : List ℕ → Tlv
+managementTlv address = tlv 8 address
 
 abbrev pub ttcTlv : ℕ → List ℕ → Tlv
 ttcTlv subtype content = tlv 127 (0xE0 ∷ 0x27 ∷ 0x1A ∷ subtype ∷ content)
@@ -69,6 +82,10 @@ listTlv addresses = ttcTlv 3 (length addresses / 6 ∷ addresses)
 abbrev pub unlessEmpty : (List ℕ → Tlv) → List ℕ → List Tlv
 unlessEmpty f [] = []
 unlessEmpty f (x ∷ l) = f (x ∷ l) ∷ []
+
+abbrev pub ifFlagged : Option Flags → List Tlv
+ifFlagged none = []
+ifFlagged (some f) = flagsTlv f ∷ []
 
 abbrev pub ifLinked : Option LinkInfo → List Tlv
 ifLinked none = []

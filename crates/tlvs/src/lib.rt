@@ -1,13 +1,15 @@
 // One TLV of an announcement, put into a lent output: the first three, the fields, and the header that End has alone.
 // Every function puts its octets at a place of the output and answers the place behind them; what does not fit is left out.
 ghost use mathlib.Core.Path.{_≡_};
+ghost use Prim.Native.Nat.{_/_, _%_};
 ghost use mathlib.Core.List.{[], _∷_};
 ghost use mathlib.Core.Option.{some};
 ghost use Rattle.output.specs.Output.{outputAt, puts};
 ghost use Rattle.octets.specs.Header.{high, low};
 ghost use Rattle.text.specs.Part.{textOf};
 ghost use Rattle.ids.specs.Id.{idMeant};
-ghost use Rattle.tlvs.specs.Tlvs.{written, octetsOf, idTlv, secondsTlv, wordsTlv, deviceTlv, linkInfo, unlessEmpty, ifLinked, ifListed, countable, countableLink, countableList};
+ghost use Rattle.system.specs.System.{flags};
+ghost use Rattle.tlvs.specs.Tlvs.{tlv, written, octetsOf, idTlv, secondsTlv, flagsTlv, deviceTlv, linkInfo, unlessEmpty, ifLinked, ifListed, countable, countableLink, countableList};
 use ids::IdPart;
 use octets::high_of;
 use octets::low_of;
@@ -55,26 +57,48 @@ pub fn put_id(out: &mut [u8], at: usize, kind: u8, text: &[u8], id: IdPart) -> u
     put_counted(out, a, id.subtype, octets)
 }
 
+// A number of two octets, high octet first.
+fn put_pair(out: &mut [u8], at: usize, n: u16) -> usize
+    ensures { λ r. ⌜ outputAt (now (out .exit)) r ≡ puts (n / 256 ∷ n % 256 ∷ []) (outputAt (now (out .entry)) at) ⌝ }
+{
+    let a = put_octet(out, at, (n / 256) as u8);
+    put_octet(out, a, (n % 256) as u8)
+}
+
 // TLV 3 (L5).
 pub fn put_seconds(out: &mut [u8], at: usize, seconds: u16) -> usize
     ensures { λ r. ⌜ outputAt (now (out .exit)) r ≡ puts (written (secondsTlv seconds)) (outputAt (now (out .entry)) at) ⌝ }
 {
     let a = put_head(out, at, 3, 2);
-    let b = put_octet(out, a, (seconds / 256) as u8);
-    put_octet(out, b, (seconds % 256) as u8)
+    put_pair(out, a, seconds)
 }
 
-// The port description, if it is not empty (T10).
-pub fn put_words(out: &mut [u8], at: usize, text: &[u8], p: Part) -> usize
-    ensures { λ r. ⌜ outputAt (now (out .exit)) r ≡ puts (octetsOf (unlessEmpty wordsTlv (textOf (now (text .entry)) p))) (outputAt (now (out .entry)) at) ⌝ }
+// A TLV whose information string is at hand, as that of a management address is (L1, S3).
+pub fn put_tlv(out: &mut [u8], at: usize, kind: u8, body: &[u8]) -> usize
+    ensures { λ r. ⌜ outputAt (now (out .exit)) r ≡ puts (written (tlv kind (now (body .entry)))) (outputAt (now (out .entry)) at) ⌝ }
 {
-    let words = text_of(text, p);
-    let n = words.len();
-    if n == 0 {
+    let a = put_head(out, at, kind, body.len());
+    put_all(out, a, body)
+}
+
+// A string that is a TLV by itself, if it is not empty: port description, system name, system description (T10, S1).
+pub fn put_string(out: &mut [u8], at: usize, kind: u8, text: &[u8], p: Part) -> usize
+    ensures { λ r. ⌜ outputAt (now (out .exit)) r ≡ puts (octetsOf (unlessEmpty (tlv kind) (textOf (now (text .entry)) p))) (outputAt (now (out .entry)) at) ⌝ }
+{
+    let string = text_of(text, p);
+    if string.len() == 0 {
         return at;
     }
-    let a = put_head(out, at, 4, n);
-    put_all(out, a, words)
+    put_tlv(out, at, kind, string)
+}
+
+// Capabilities: two sets of flags (S2).
+pub fn put_flags(out: &mut [u8], at: usize, able: u16, enabled: u16) -> usize
+    ensures { λ r. ⌜ outputAt (now (out .exit)) r ≡ puts (written (flagsTlv (flags able enabled))) (outputAt (now (out .entry)) at) ⌝ }
+{
+    let a = put_head(out, at, 7, 4);
+    let b = put_pair(out, a, able);
+    put_pair(out, b, enabled)
 }
 
 // Device information, if its string is not empty (T2, T3).

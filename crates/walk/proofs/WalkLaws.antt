@@ -7,7 +7,7 @@ use mathlib.Core.Bool.{Bool, true, false}
 use native.Mathlib.Omega.{arith}
 use native.Mathlib.Numerals.{add-one, add-two}
 use native.Mathlib.Nat.{add-zero}
-use borrow.Author.Tests.{le-leb, lt-leb, leb-true}
+use borrow.Author.Tests.{ne-eqb, le-leb, lt-leb, leb-true}
 use lib.ListN.{length, take, drop, getD, length-drop}
 use lib.Seq.{drop-cons, drop-drop}
 use lib.Dec.{leb, ltb, eqb}
@@ -70,6 +70,11 @@ is-whole (hi ∷ lo ∷ r) kind len i = rw (i .kind-is, i .len-is, le-leb len (l
 
 pub whole-fits : (s : List ℕ) (at : ℕ) {kind len : ℕ} → headOf (drop at s) ≡ Whole kind len → at + 2 + len ≤ length s
 whole-fits s at {kind} {len} e = omega (arith, whole (drop at s) kind len e .fits, length-drop at s)
+
+-- behind the first three, types 4 to 126 are passed whatever their length (L9)
+pub other-passed : (kind len at : ℕ) → 3 < kind → kind < 127 → stepOf (Whole kind len) at ≡ step.Next kind (at + 2) len
+unfolding stepOf
+other-passed kind len at h k = rw (ne-eqb kind 0 (λ e. omega arith), lt-leb kind 3 h, ne-eqb kind 127 (λ e. omega arith))
 
 -- A step that goes on has a whole TLV
 

@@ -9,22 +9,30 @@ use borrow.Author.Tests.{le-leb, leb-true}
 use borrow.Fn.Kinds.{Dens, resT, endedOf}
 use contract.Lifetimes.{Lfts}
 use denote.Triple.Clauses.{AtExit}
-use lib.ListN.{length, take, drop}
+use lib.ListN.{length, take, drop, getD}
 use lib.Seq.{take-at, take-all, drop-at}
 use lib.Dec.{leb, eqb}
 use Rattle.tally.specs.Tests.{pick, both}
-use Rattle.fields.specs.Field.{portDescription, category, manufacturer, modelName, modelNumber, link, addressList, topics}
-use Rattle.lldpdu.specs.Extent.{portPlace, idAt, extentOf}
+use Rattle.tally.proofs.RangesLaws.{all-each}
+use Rattle.fields.specs.Field.{portDescription, category, manufacturer, modelName, modelNumber, link, addressList, systemName, systemDescription, management, topics}
+use Rattle.lldpdu.specs.Extent.{portPlace, idAt, restOf, extentOf}
 use Rattle.lldpdu.proofs.ExtentLaws.{good, reads}
 use Rattle.lldpdu.proofs.Stable.{sized}
 use Rattle.walk.specs.declared.Extent.the-variants as extent-is
+use Rattle.text.specs.Part.{nowhere, mostParts}
 use Rattle.text.specs.declared.Part.{Part}
-use Rattle.found.specs.Found.{markOf}
-use Rattle.reading.specs.Reading.{partAt, linkAt, listAt, foundIn, readingOf}
+use Rattle.text.specs.declared.Parts.{Parts}
+use Rattle.text.proofs.PartsLaws.{front-at}
+use Rattle.found.specs.Contents.{contents, tlvsIn}
+use Rattle.found.specs.Found.{partAt, markOf}
+use Rattle.found.proofs.ManagementLaws.{Lists, management-means}
+use Rattle.system.specs.System.{shortAt}
+use Rattle.system.proofs.SystemLaws.{short-inside}
+use Rattle.reading.specs.Reading.{linkAt, listAt, foundIn, readingOf}
 use Rattle.reader.specs.Frame.{frameOk, ReadsFrame}
 use Rattle.reader.proofs.Agree.{frame-reads}
 use Rattle.reading.specs.Meaning.{ReaderAnswer, answerOf, saidBy, meant, Reads}
-use Rattle.reading.proofs.MeaningLaws.{LinkFits, reading-link-fits, marks-inside}
+use Rattle.reading.proofs.MeaningLaws.{LinkFits, reading-link-fits, rest-in, marks-inside}
 use Rattle.found.specs.declared.Mark.{Mark}
 use Rattle.reading.specs.declared.Link.{Link}
 use Rattle.reading.specs.declared.Link.the-variants as link-is
@@ -32,7 +40,8 @@ use Rattle.reading.specs.declared.AddressList.the-variants as list-is
 use Rattle.reading.specs.declared.Description.{Description}
 use Rattle.reading.specs.declared.Reading.{Reading}
 use Rattle.announcement.specs.Encode.{encode}
-use Rattle.parts.specs.Inside.{partInside, linkInside, listInside, allInside}
+use Rattle.parts.specs.Inside.{partInside, partsInside, linkInside, listInside, allInside}
+use Rattle.parts.proofs.InsideLaws.{asked, asked-is, asked-all}
 use Rattle.description.specs.Rules.{soundOf}
 use Rattle.writer.specs.Write.{keeps, writeOf, octetsWritten, over, Writes}
 use Rattle.writer.proofs.RoundTrip.{answered, read-back, good-written}
@@ -109,12 +118,21 @@ list-inside n m h = go (eqb (m .times) 0)
     go true = refl
     go false = part-fits n (partAt m) h
 
+-- management addresses that were read: no more than four, each inside
+parts-inside : (s : List ℕ) (l : Parts) (cs : List (List ℕ)) → Lists s l cs → partsInside (length s) l ≡ true
+parts-inside s l cs i =
+    let n = length s in
+    let each = all-each (asked n l) (l .count) (λ k h. asked-is n l k (sym (front-at l k h)) (sym (part-fits n (getD (l .parts) k nowhere) (i .inside k)))) in
+    rw (le-leb (l .count) mostParts (i .few)) (sym (asked-all n l (i .long) (i .few)) ∙ each)
+
 reading-inside : (s : List ℕ) (e : ℕ) → extentOf s ≡ extent-is.Octets e → allInside (length s) (readingOf s .description) ≡ true
 unfolding allInside readingOf
 reading-inside s e v =
     let z = sized (good s e v) in
     let m : (t : ℕ) → t < topics → partInside (length s) (partAt (markOf t (foundIn s))) ≡ true =
     λ t h. part-fits (length s) (partAt (markOf t (foundIn s))) (marks-inside s t h) in
+    let string : (t : ℕ) → t < topics → partInside (length s) (shortAt (markOf t (foundIn s))) ≡ true =
+    λ t h. part-fits (length s) (shortAt (markOf t (foundIn s))) (short-inside (length s) (markOf t (foundIn s)) (marks-inside s t h)) in
     rw (
       v,
       part-fits (length s) (idAt s 0 .octets) (omega (arith, z)),
@@ -126,6 +144,9 @@ reading-inside s e v =
       m modelNumber (omega arith),
       link-inside (length s) (linkAt s (markOf link (foundIn s))) (reading-link-fits s),
       list-inside (length s) (markOf addressList (foundIn s)) (marks-inside s addressList (omega arith)),
+      string systemName (omega arith),
+      string systemDescription (omega arith),
+      parts-inside s (foundIn s .management) (contents management (tlvsIn s)) (management-means s (restOf s .tlvs) (rest-in s)),
     )
 
 -- The two sentences

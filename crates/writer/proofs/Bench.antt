@@ -1,17 +1,19 @@
--- The numbers of the rules, computed: frame A's LLDPDU is what is written of its description (B1), and the limits of W5.
--- One description and three tables; the round trip says the rest of every description.
+-- The numbers of the rules, computed: what is written of the descriptions of frame A (B1) and B17, and the limits of W3, W5 and W7.
+-- Two descriptions and four tables; the round trip says the rest of every description.
 use Prim.Native.Nat.{ℕ, _*_}
 use mathlib.Core.Path.{_≡_, refl}
-use mathlib.Core.List.{List, [], _∷_}
+use mathlib.Core.List.{List, [], _∷_, map}
 use mathlib.Core.Bool.{true, false}
 use mathlib.Core.Option.{Option, none, some}
 use lib.ListN.{replicate}
 use Rattle.strings.specs.Text.{textOk}
 use Rattle.ids.specs.Id.{id, chassisOk, portOk}
 use Rattle.found.specs.Contents.{LinkInfo}
+use Rattle.tally.specs.Tests.{all}
+use Rattle.system.specs.System.{SystemInfo, flags, unsaid, systemRules, absentRules}
 use Rattle.reading.specs.Meaning.{Said}
 use Rattle.tlvs.specs.Tlvs.{octetsOf, linkInfo}
-use Rattle.announcement.specs.Encode.{fieldTlvs, tlvsOf, encode}
+use Rattle.announcement.specs.Encode.{systemTlvs, deviceTlvs, fieldTlvs, tlvsOf, encode}
 use Rattle.description.specs.Rules.{linkSound, listSound, soundOf}
 
 -- what frame A says
@@ -28,6 +30,7 @@ said-a =
       number = 0x37 ∷ [];
       link = none;
       list = none;
+      system = unsaid;
     }
 
 pub bench-sound : soundOf said-a ≡ true
@@ -41,8 +44,68 @@ pub bench-written : encode said-a
     ∷ 0xFE ∷ 0x07 ∷ 0xE0 ∷ 0x27 ∷ 0x1A ∷ 0x01 ∷ 0x01 ∷ 0x01 ∷ 0x41
     ∷ 0xFE ∷ 0x07 ∷ 0xE0 ∷ 0x27 ∷ 0x1A ∷ 0x01 ∷ 0x04 ∷ 0x01 ∷ 0x37
     ∷ 0x00 ∷ 0x00 ∷ []
-unfolding encode tlvsOf fieldTlvs octetsOf
+unfolding encode tlvsOf fieldTlvs systemTlvs deviceTlvs octetsOf
 bench-written = refl
+
+-- what B17 says: its system fields stand behind the port description, before the TTC fields (W1)
+abbrev said-b : Said
+said-b =
+    record {
+      chassis = said-a .chassis;
+      port = said-a .port;
+      seconds = said-a .seconds;
+      words = [];
+      category = said-a .category;
+      manufacturer = [];
+      model = [];
+      number = said-a .number;
+      link = none;
+      list = none;
+      system =
+          record {
+            name = 0x73 ∷ 0x77 ∷ [];
+            description = 0x78 ∷ [];
+            capabilities = some (flags 20 4);
+            management = (0x05 ∷ 0x01 ∷ 0x0A ∷ 0x00 ∷ 0x00 ∷ 0x01 ∷ 0x02 ∷ 0x00 ∷ 0x01 ∷ []) ∷ [];
+          };
+    }
+
+pub system-sound : soundOf said-b ≡ true
+unfolding soundOf textOk chassisOk portOk
+system-sound = refl
+
+pub system-written : encode said-b
+    ≡ 0x02 ∷ 0x07 ∷ 0x04 ∷ 0x02 ∷ 0x00 ∷ 0x00 ∷ 0x00 ∷ 0x00 ∷ 0x01
+    ∷ 0x04 ∷ 0x02 ∷ 0x07 ∷ 0x31
+    ∷ 0x06 ∷ 0x02 ∷ 0x00 ∷ 0x78
+    ∷ 0x0A ∷ 0x02 ∷ 0x73 ∷ 0x77
+    ∷ 0x0C ∷ 0x01 ∷ 0x78
+    ∷ 0x0E ∷ 0x04 ∷ 0x00 ∷ 0x14 ∷ 0x00 ∷ 0x04
+    ∷ 0x10 ∷ 0x09 ∷ 0x05 ∷ 0x01 ∷ 0x0A ∷ 0x00 ∷ 0x00 ∷ 0x01 ∷ 0x02 ∷ 0x00 ∷ 0x01
+    ∷ 0xFE ∷ 0x07 ∷ 0xE0 ∷ 0x27 ∷ 0x1A ∷ 0x01 ∷ 0x01 ∷ 0x01 ∷ 0x41
+    ∷ 0xFE ∷ 0x07 ∷ 0xE0 ∷ 0x27 ∷ 0x1A ∷ 0x01 ∷ 0x04 ∷ 0x01 ∷ 0x37
+    ∷ 0x00 ∷ 0x00 ∷ []
+unfolding encode tlvsOf fieldTlvs systemTlvs deviceTlvs octetsOf
+system-written = refl
+
+-- a name of n octets and a description of m, and k management addresses of n octets
+abbrev strings : ℕ → ℕ → SystemInfo
+strings n m = record { name = replicate n 1; description = replicate m 1; capabilities = none; management = [] }
+
+abbrev managed : ℕ → ℕ → SystemInfo
+managed k n = record { name = []; description = []; capabilities = none; management = replicate k (replicate n 1) }
+
+pub system-limits : map (λ x. all (systemRules x))
+    (strings 255 255 ∷ strings 256 0 ∷ strings 0 256 ∷ managed 4 9 ∷ managed 4 167 ∷ managed 1 8 ∷ managed 1 168 ∷ managed 5 9 ∷ [])
+    ≡ true ∷ false ∷ false ∷ true ∷ true ∷ false ∷ false ∷ false ∷ []
+system-limits = refl
+
+-- what a goodbye may carry of the system: nothing, not even capabilities with no flag set (W3)
+abbrev flagless : SystemInfo
+flagless = record { name = []; description = []; capabilities = some (flags 0 0); management = [] }
+
+pub goodbye-limits : map (λ x. all (absentRules x)) (unsaid ∷ strings 1 0 ∷ strings 0 1 ∷ flagless ∷ managed 1 9 ∷ []) ≡ true ∷ false ∷ false ∷ false ∷ false ∷ []
+goodbye-limits = refl
 
 -- k addresses in link information with n = m, and in an address list
 abbrev linked : ℕ → ℕ → Option LinkInfo

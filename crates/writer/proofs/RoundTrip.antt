@@ -5,15 +5,16 @@ use mathlib.Core.Path.{_≡_, refl, sym, ap, ap₂, _∙_}
 use mathlib.Core.List.{List, [], _∷_, _++_, map, append-assoc, append-nil}
 use mathlib.Core.Bool.{Bool, true, false, not}
 use native.Mathlib.Omega.{arith}
-use borrow.Author.Tests.{eqb-true, leb-true}
+use borrow.Author.Tests.{eqb-true, leb-true, le-leb}
 use lib.ListN.{length, take, drop, getD, length-append}
-use lib.Seq.{drop-at, take-at, getD-drop, drop-drop}
+use lib.Seq.{drop-at, take-at, take-all, getD-drop, drop-drop}
 use lib.Dec.{leb, eqb}
 use Rattle.tally.specs.Tests.{pick, all}
-use Rattle.tally.proofs.TestsLaws.{Held, held}
+use Rattle.tally.proofs.TestsLaws.{held}
 use Rattle.octets.specs.Numbers.{pairOf}
 use Rattle.strings.specs.Wants.{wantedOf}
-use Rattle.fields.specs.Field.{portDescription, category, manufacturer, modelName, modelNumber, link, addressList}
+use Rattle.text.specs.Part.{mostParts}
+use Rattle.fields.specs.Field.{portDescription, category, manufacturer, modelName, modelNumber, link, addressList, systemName, systemDescription, capabilities, management}
 use Rattle.walk.specs.Walk.{headOf, Walked, walk}
 use Rattle.ids.specs.Id.{Id, chassisOk, portOk}
 use Rattle.ids.proofs.IdLaws.{chassis-short, port-short}
@@ -22,85 +23,107 @@ use Rattle.lldpdu.specs.Outline.{secondsIn}
 use Rattle.lldpdu.proofs.ExtentLaws.{length-at, Good, reads}
 use Rattle.walk.specs.declared.Head.the-variants.{Whole}
 use Rattle.walk.specs.declared.Extent.the-variants.{Octets}
-use Rattle.found.specs.Contents.{contents, wellFormed, htipOf, tlvsIn}
+use Rattle.found.specs.Contents.{contents, wellFormed, htipOf, first, tlvsIn}
+use Rattle.found.proofs.ContentsLaws.{contents-append}
+use Rattle.system.specs.System.{upTo255, systemIn}
+use Rattle.system.proofs.TypeLaws.{by-topics}
 use Rattle.reading.specs.Meaning.{Said, saidIn, ReaderAnswer, refusedAnswer, answerOf}
 use Rattle.reader.specs.Frame.{frameOk, onFrame}
 use Rattle.reader.proofs.Agree.{frame-agrees}
-use Rattle.tlvs.specs.Tlvs.{written, octetsOf, idTlv, chassisTlv, portTlv, secondsTlv, endTlv, wordsTlv, deviceTlv, unlessEmpty, ifLinked, ifListed}
-use Rattle.announcement.specs.Encode.{fieldTlvs, tlvsOf, encode}
-use Rattle.description.specs.Rules.{stringRules, goodbyeRules, liveRules, rules, soundOf}
-use Rattle.description.proofs.RulesLaws.{kept}
+use Rattle.tlvs.specs.Tlvs.{written, octetsOf, idTlv, chassisTlv, portTlv, secondsTlv, endTlv, wordsTlv, nameTlv, systemDescriptionTlv, managementTlv, deviceTlv, unlessEmpty, ifFlagged, ifLinked, ifListed}
+use Rattle.announcement.specs.Encode.{systemTlvs, deviceTlvs, fieldTlvs, tlvsOf, encode}
+use Rattle.description.specs.Rules.{goodbyeRules, liveRules, soundOf}
+use Rattle.description.proofs.RulesLaws.{Kept, kept}
 use Rattle.tlvs.proofs.TlvLaws.{octets-append}
 use Rattle.writer.proofs.ReadBack.{head-written, AllPassed, passed-append, laid, laid-are, walk-octets}
-use Rattle.writer.proofs.Topics.{contents-append, formed-append, Speaks, unlessNone, speaks-string, words-about, device-about, linkContents, speaks-link, first-link, listContents, speaks-list, first-list, first-string}
+use Rattle.writer.proofs.Topics.{formed-both, Speaks, unlessNone, speaks-string, words-about, system-name-about, system-description-about, speaks-management, device-about, flagsContents, speaks-flags, first-flags, linkContents, speaks-link, first-link, listContents, speaks-list, first-list, first-string}
 
 -- What is said of a description that keeps the rules
 
 module _ (d : Said) (sound : soundOf d ≡ true) where
-  ruled : Held (rules d)
-  unfolding soundOf
-  ruled = held (rules d) sound
-
-  strings : Held (stringRules d)
-  strings = held (stringRules d) (ruled .1 .1 .1 .0)
+  rules-kept : Kept d
+  rules-kept = kept d sound
 
   words-speak : Speaks (unlessEmpty wordsTlv (d .words)) portDescription (unlessNone (d .words))
-  words-speak = speaks-string wordsTlv portDescription (d .words) (λ p. words-about (d .words) (ruled .1 .1 .0))
+  words-speak = speaks-string wordsTlv portDescription (d .words) (λ p. words-about (d .words) (rules-kept .words) (rules-kept .text))
+
+  system-name-speaks : Speaks (unlessEmpty nameTlv (d .system .name)) systemName (unlessNone (d .system .name))
+  system-name-speaks = speaks-string nameTlv systemName (d .system .name) (λ p. system-name-about (d .system .name) (rules-kept .name))
+
+  system-description-speaks : Speaks (unlessEmpty systemDescriptionTlv (d .system .description)) systemDescription (unlessNone (d .system .description))
+  system-description-speaks =
+      speaks-string systemDescriptionTlv systemDescription (d .system .description) (λ p. system-description-about (d .system .description) (rules-kept .description))
+
+  flags-speak : Speaks (ifFlagged (d .system .capabilities)) capabilities (flagsContents (d .system .capabilities))
+  flags-speak = speaks-flags (d .system .capabilities)
+
+  management-speaks : Speaks (map managementTlv (d .system .management)) management (d .system .management)
+  management-speaks = speaks-management (d .system .management) (rules-kept .management)
 
   category-speaks : Speaks (unlessEmpty (deviceTlv 1) (d .category)) category (unlessNone (d .category))
   unfolding wantedOf
-  category-speaks = speaks-string (deviceTlv 1) category (d .category) (device-about 1 255 (d .category) refl (omega arith) (leb-true _ _ (strings .0)))
+  category-speaks = speaks-string (deviceTlv 1) category (d .category) (device-about 1 255 (d .category) refl (omega arith) (rules-kept .category))
 
   manufacturer-speaks : Speaks (unlessEmpty (deviceTlv 2) (d .manufacturer)) manufacturer (unlessNone (d .manufacturer))
   unfolding wantedOf
-  manufacturer-speaks = speaks-string (deviceTlv 2) manufacturer (d .manufacturer) (device-about 2 6 (d .manufacturer) refl (omega arith) (leb-true _ _ (strings .1 .0)))
+  manufacturer-speaks = speaks-string (deviceTlv 2) manufacturer (d .manufacturer) (device-about 2 6 (d .manufacturer) refl (omega arith) (rules-kept .manufacturer))
 
   model-speaks : Speaks (unlessEmpty (deviceTlv 3) (d .model)) modelName (unlessNone (d .model))
   unfolding wantedOf
-  model-speaks = speaks-string (deviceTlv 3) modelName (d .model) (device-about 3 31 (d .model) refl (omega arith) (leb-true _ _ (strings .1 .1 .0)))
+  model-speaks = speaks-string (deviceTlv 3) modelName (d .model) (device-about 3 31 (d .model) refl (omega arith) (rules-kept .model))
 
   number-speaks : Speaks (unlessEmpty (deviceTlv 4) (d .number)) modelNumber (unlessNone (d .number))
   unfolding wantedOf
-  number-speaks = speaks-string (deviceTlv 4) modelNumber (d .number) (device-about 4 31 (d .number) refl (omega arith) (leb-true _ _ (strings .1 .1 .1 .0)))
+  number-speaks = speaks-string (deviceTlv 4) modelNumber (d .number) (device-about 4 31 (d .number) refl (omega arith) (rules-kept .number))
 
   link-speaks : Speaks (ifLinked (d .link)) link (linkContents (d .link))
-  link-speaks = speaks-link (d .link) (ruled .1 .1 .1 .1 .0)
+  link-speaks = speaks-link (d .link) (rules-kept .link)
 
   list-speaks : Speaks (ifListed (d .list)) addressList (listContents (d .list))
-  list-speaks = speaks-list (d .list) (ruled .1 .1 .1 .1 .1 .0)
+  list-speaks = speaks-list (d .list) (rules-kept .list)
 
   fields-passed : AllPassed (fieldTlvs d)
-  unfolding fieldTlvs
+  unfolding fieldTlvs systemTlvs deviceTlvs
   fields-passed =
       passed-append (words-speak .passed)
-      (passed-append (category-speaks .passed)
-      (passed-append (manufacturer-speaks .passed)
-      (passed-append (model-speaks .passed)
-      (passed-append (number-speaks .passed) (passed-append (link-speaks .passed) (list-speaks .passed))))))
+      (passed-append
+      (passed-append (system-name-speaks .passed) (passed-append (system-description-speaks .passed) (passed-append (flags-speak .passed) (management-speaks .passed))))
+      (passed-append
+      (passed-append (category-speaks .passed) (passed-append (manufacturer-speaks .passed) (passed-append (model-speaks .passed) (number-speaks .passed))))
+      (passed-append (link-speaks .passed) (list-speaks .passed))))
 
   fields-formed : wellFormed (fieldTlvs d) ≡ true
-  unfolding fieldTlvs
+  unfolding fieldTlvs systemTlvs deviceTlvs
   fields-formed =
-      formed-append _ _ (words-speak .well-formed)
-      (formed-append _ _ (category-speaks .well-formed)
-      (formed-append _ _ (manufacturer-speaks .well-formed)
-      (formed-append _ _ (model-speaks .well-formed)
-      (formed-append _ _ (number-speaks .well-formed) (formed-append _ _ (link-speaks .well-formed) (list-speaks .well-formed))))))
+      formed-both _ _ (words-speak .well-formed)
+      (formed-both _ _
+      (formed-both _ _ (system-name-speaks .well-formed) (formed-both _ _ (system-description-speaks .well-formed) (formed-both _ _ (flags-speak .well-formed) (management-speaks .well-formed))))
+      (formed-both _ _
+      (formed-both _ _ (category-speaks .well-formed) (formed-both _ _ (manufacturer-speaks .well-formed) (formed-both _ _ (model-speaks .well-formed) (number-speaks .well-formed))))
+      (formed-both _ _ (link-speaks .well-formed) (list-speaks .well-formed))))
 
   -- the contents of any topic, one behind the other; at a topic all but one of them are empty
   fields-contents : (topic : ℕ)
       → contents topic (fieldTlvs d)
       ≡ pick (eqb topic portDescription) (unlessNone (d .words)) []
+      ++ (pick (eqb topic systemName) (unlessNone (d .system .name)) []
+      ++ (pick (eqb topic systemDescription) (unlessNone (d .system .description)) []
+      ++ (pick (eqb topic capabilities) (flagsContents (d .system .capabilities)) []
+      ++ (pick (eqb topic management) (d .system .management) []
       ++ (pick (eqb topic category) (unlessNone (d .category)) []
       ++ (pick (eqb topic manufacturer) (unlessNone (d .manufacturer)) []
       ++ (pick (eqb topic modelName) (unlessNone (d .model)) []
       ++ (pick (eqb topic modelNumber) (unlessNone (d .number)) []
-      ++ (pick (eqb topic link) (linkContents (d .link)) [] ++ pick (eqb topic addressList) (listContents (d .list)) [])))))
-  unfolding fieldTlvs
+      ++ (pick (eqb topic link) (linkContents (d .link)) [] ++ pick (eqb topic addressList) (listContents (d .list)) [])))))))))
+  unfolding fieldTlvs systemTlvs deviceTlvs
   fields-contents topic =
-      simp contents-append
+      simp (contents-append, append-assoc)
       (rw (
         words-speak .contents-are topic,
+        system-name-speaks .contents-are topic,
+        system-description-speaks .contents-are topic,
+        flags-speak .contents-are topic,
+        management-speaks .contents-are topic,
         category-speaks .contents-are topic,
         manufacturer-speaks .contents-are topic,
         model-speaks .contents-are topic,
@@ -131,6 +154,25 @@ module _ (d : Said) (sound : soundOf d ≡ true) where
   list-contents : contents addressList (fieldTlvs d) ≡ listContents (d .list)
   list-contents = fields-contents addressList
 
+  -- of the system fields what is read: a string that is no longer than 255 octets is itself, and four or fewer are all
+  short-string : (l : List ℕ) → length l ≤ 255 → upTo255 (first (unlessNone l)) ≡ l
+  short-string l h = rw (first-string l, le-leb (length l) 255 h)
+
+  system-back : systemIn (fieldTlvs d) ≡ d .system
+  system-back =
+      let x = d .system in
+      by-topics (fieldTlvs d)
+      ∙ rw (
+        fields-contents systemName ∙ append-nil (unlessNone (x .name)),
+        fields-contents systemDescription ∙ append-nil (unlessNone (x .description)),
+        fields-contents capabilities ∙ append-nil (flagsContents (x .capabilities)),
+        fields-contents management ∙ append-nil (x .management),
+        short-string (x .name) (rules-kept .name),
+        short-string (x .description) (rules-kept .description),
+        first-flags (x .capabilities),
+        take-all mostParts (x .management) (rules-kept .few),
+      )
+
   -- The verdict: yes exactly with seconds above 0
 
   present : (l : List ℕ) → 1 ≤ length l → eqb (length (unlessNone l)) 1 ≡ true
@@ -147,7 +189,7 @@ module _ (d : Said) (sound : soundOf d ≡ true) where
 
   verdict-back : htipOf (fieldTlvs d) ≡ not (eqb (d .seconds) 0)
   unfolding htipOf
-  verdict-back = rw (fields-formed, category-back, manufacturer-back, model-back, number-back) (go (eqb (d .seconds) 0) (ruled .1 .1 .1 .1 .1 .1 .0))
+  verdict-back = rw (fields-formed, category-back, manufacturer-back, model-back, number-back) (go (eqb (d .seconds) 0) (rules-kept .timely))
     where
       go : (z : Bool) → pick z (all (goodbyeRules d)) (all (liveRules d)) ≡ true
           → all (true
@@ -311,6 +353,7 @@ module _ (d : Said) (t : List ℕ) where
           first-string (d .number),
           first-link (d .link) (kept d sound .link),
           first-list (d .list),
+          system-back d sound,
         )
 
 -- The theorem

@@ -1,8 +1,8 @@
 -- What the written fields say: each TLV that the writer makes of a topic is read as that topic with the same content.
 -- `Speaks ts n cs`: the TLVs ts are passed by the walk, are well formed, and have the contents cs of topic n and none of another.
-use Prim.Native.Nat.{ℕ, _+_, _*_, _/_, _%_, _≤_}
-use mathlib.Core.Path.{_≡_, refl, sym, ap, _∙_}
-use mathlib.Core.List.{List, [], _∷_, _++_, append-assoc}
+use Prim.Native.Nat.{ℕ, _+_, _*_, _/_, _%_, _<_, _≤_}
+use mathlib.Core.Path.{_≡_, refl, sym, ap, ap₂, _∙_}
+use mathlib.Core.List.{List, [], _∷_, _++_, map, append-assoc}
 use mathlib.Core.Bool.{Bool, true, false}
 use mathlib.Core.Option.{Option, none, some}
 use native.Mathlib.Omega.{arith}
@@ -16,49 +16,33 @@ use Rattle.strings.specs.Text.{textOk}
 use Rattle.strings.specs.Wants.{wantedOf}
 use Rattle.fields.specs.Device.{deviceOf}
 use Rattle.links.specs.Link.{linkOk, listOk}
-use Rattle.fields.specs.Field.{link, addressList, portDescription, descriptionOf, linkOf, listOf, isTtc, ttcOf, fieldOf}
+use Rattle.fields.specs.Field.{link, addressList, portDescription, systemName, systemDescription, capabilities, management, descriptionOf, managementOk, managementOf, linkOf, listOf, isTtc, ttcOf, fieldOf}
 use Rattle.strings.specs.declared.Wanted.the-variants.{Text}
-use Rattle.fields.specs.declared.Field.{Field}
-use Rattle.fields.specs.declared.Field.the-variants.{Skipped, Malformed, Says}
+use Rattle.fields.specs.declared.Field.the-variants.{Says}
 use Rattle.links.proofs.LinkLaws.{link-counts}
 use Rattle.walk.specs.Walk.{Tlv, stepOf}
-use Rattle.found.specs.Contents.{onField, contents, formed, wellFormed, LinkInfo, first}
+use Rattle.walk.proofs.WalkLaws.{other-passed}
+use Rattle.found.specs.Contents.{contents, wellFormed, LinkInfo, first}
+use Rattle.found.proofs.ContentsLaws.{formed-append}
+use Rattle.octets.specs.Numbers.{pairOf}
+use Rattle.system.specs.System.{Flags, flags, flagsIn, managementSound}
 use Rattle.reading.specs.Meaning.{firstLink, firstList}
-use Rattle.tlvs.specs.Tlvs.{wordsTlv, ttcTlv, deviceTlv, linkContent, linkTlv, listTlv, unlessEmpty, ifLinked, ifListed}
-use Rattle.description.specs.Rules.{wordsSound, tableRules, tableSound, linkSound, listedSound, listSound}
+use Rattle.tlvs.specs.Tlvs.{tlv, wordsTlv, nameTlv, systemDescriptionTlv, flagsTlv, managementTlv, ttcTlv, deviceTlv, linkContent, linkTlv, listTlv, unlessEmpty, ifFlagged, ifLinked, ifListed}
+use Rattle.description.specs.Rules.{tableRules, tableSound, linkSound, listedSound, listSound}
 use Rattle.tlvs.proofs.TlvLaws.{link-length}
 use Rattle.writer.proofs.ReadBack.{Passed, AllPassed, none-passed, more-passed}
 
 -- Lists of TLVs
 
-pub contents-append : (topic : ℕ) (a b : List Tlv) → contents topic (a ++ b) ≡ contents topic a ++ contents topic b
-unfolding contents
-contents-append topic [] b = refl
-contents-append topic (t ∷ a) b = go (fieldOf (t .kind) (t .body)) (contents-append topic a b)
-  where
-    go : (x : Field) → contents topic (a ++ b) ≡ contents topic a ++ contents topic b
-        → onField x topic (t .body) (contents topic (a ++ b)) ≡ onField x topic (t .body) (contents topic a) ++ contents topic b
-    go Skipped ih = ih
-    go Malformed ih = ih
-    go (Says n skip) ih = met (eqb topic n)
-      where
-        met : (u : Bool) → pick u (drop skip (t .body) ∷ contents topic (a ++ b)) (contents topic (a ++ b))
-            ≡ pick u (drop skip (t .body) ∷ contents topic a) (contents topic a) ++ contents topic b
-        met true = ap (λ (l : List (List ℕ)). drop skip (t .body) ∷ l) ih
-        met false = ih
-
-pub formed-append : (a b : List Tlv) → wellFormed a ≡ true → wellFormed b ≡ true → wellFormed (a ++ b) ≡ true
-unfolding wellFormed
-formed-append [] b p q = q
-formed-append (t ∷ a) b p q =
-    let w = both-true (formed (fieldOf (t .kind) (t .body))) (wellFormed a) p in
-    rw (w .0) (formed-append a b (w .1) q)
+pub formed-both : (a b : List Tlv) → wellFormed a ≡ true → wellFormed b ≡ true → wellFormed (a ++ b) ≡ true
+formed-both a b p q = formed-append a b ∙ rw (p, q)
 
 pub record Speaks (ts : List Tlv) (n : ℕ) (cs : List (List ℕ)) : Type 0 where
   pub contents-are : (topic : ℕ) → contents topic ts ≡ pick (eqb topic n) cs []
   pub well-formed : wellFormed ts ≡ true
   pub passed : AllPassed ts
 
+-- no TLV at all
 pub silent : (n : ℕ) → Speaks [] n []
 unfolding contents wellFormed
 silent n = record { contents-are = λ topic. go (eqb topic n); well-formed = refl; passed = none-passed }
@@ -74,14 +58,21 @@ pub record About (t : Tlv) (n : ℕ) (c : List ℕ) : Type 0 where
   pub content : drop skip (t .body) ≡ c
   pub goes : Passed t
 
-pub speaks-one : {t : Tlv} {n : ℕ} {c : List ℕ} → About t n c → Speaks (t ∷ []) n (c ∷ [])
+pub speaks-more : {t : Tlv} {n : ℕ} {c : List ℕ} {ts : List Tlv} {cs : List (List ℕ)} → About t n c → Speaks ts n cs → Speaks (t ∷ ts) n (c ∷ cs)
 unfolding contents wellFormed
-speaks-one {t} {n} {c} a =
+speaks-more {t} {n} {c} {ts} {cs} a b =
     record {
-      contents-are = λ topic. rw (a .says, a .content);
-      well-formed = rw (a .says);
-      passed = more-passed (a .goes) none-passed;
+      contents-are = λ topic. rw (a .says, a .content, b .contents-are topic) (go (eqb topic n));
+      well-formed = rw (a .says) (b .well-formed);
+      passed = more-passed (a .goes) (b .passed);
     }
+  where
+    go : (u : Bool) → pick u (c ∷ pick u cs []) (pick u cs []) ≡ pick u (c ∷ cs) []
+    go true = refl
+    go false = refl
+
+pub speaks-one : {t : Tlv} {n : ℕ} {c : List ℕ} → About t n c → Speaks (t ∷ []) n (c ∷ [])
+speaks-one {n = n} a = speaks-more a (silent n)
 
 abbrev pub unlessNone : List ℕ → List (List ℕ)
 unlessNone [] = []
@@ -91,19 +82,48 @@ pub speaks-string : (f : List ℕ → Tlv) (n : ℕ) (l : List ℕ) → (1 ≤ l
 speaks-string f n [] a = silent n
 speaks-string f n (x ∷ l) a = speaks-one (a (omega arith))
 
--- Port description (T10)
+-- A TLV whose whole information string is the content: port description (T10) and system fields (S1 to S3)
 
-pub words-about : (b : List ℕ) → wordsSound b ≡ true → About (wordsTlv b) portDescription b
-unfolding fieldOf descriptionOf stepOf
-words-about b e =
-    let w = both-true (leb (length b) 255) (textOk b) e in
-    let h = leb-true (length b) 255 (w .0) in
+whole-about : (kind topic : ℕ) (b : List ℕ) → fieldOf kind b ≡ Says topic 0 → kind < 127 → 3 < kind → length b < 512 → About (tlv kind b) topic b
+whole-about kind topic b e low high h =
     record {
       skip = 0;
-      says = rw (w .0, w .1);
+      says = e;
       content = refl;
-      goes = record { short = record { kind = omega arith; body = omega arith }; passed = λ at. refl };
+      goes =
+          record {
+            short = record { kind = omega arith; body = h };
+            passed = λ at. other-passed kind (length b) at high low;
+          };
     }
+
+pub words-about : (b : List ℕ) → length b ≤ 255 → textOk b ≡ true → About (wordsTlv b) portDescription b
+unfolding fieldOf descriptionOf
+words-about b h t = whole-about 4 portDescription b (rw (le-leb (length b) 255 h, t)) (omega arith) (omega arith) (omega arith)
+
+pub system-name-about : (b : List ℕ) → length b ≤ 255 → About (nameTlv b) systemName b
+unfolding fieldOf
+system-name-about b h = whole-about 5 systemName b refl (omega arith) (omega arith) (omega arith)
+
+pub system-description-about : (b : List ℕ) → length b ≤ 255 → About (systemDescriptionTlv b) systemDescription b
+unfolding fieldOf
+system-description-about b h = whole-about 6 systemDescription b refl (omega arith) (omega arith) (omega arith)
+
+flags-about : (f : Flags) → About (flagsTlv f) capabilities (flagsTlv f .body)
+unfolding fieldOf
+flags-about f = whole-about 7 capabilities (flagsTlv f .body) refl (omega arith) (omega arith) (omega arith)
+
+address-about : (a : List ℕ) → managementOk (length a) ≡ true → About (managementTlv a) management a
+unfolding fieldOf managementOf
+address-about a e =
+    let h = leb-true (length a) 167 (both-true (leb 9 (length a)) (leb (length a) 167) e .1) in
+    whole-about 8 management a (rw e) (omega arith) (omega arith) (omega arith)
+
+pub speaks-management : (l : List (List ℕ)) → managementSound l ≡ true → Speaks (map managementTlv l) management l
+speaks-management [] e = silent management
+speaks-management (a ∷ l) e =
+    let w = both-true (managementOk (length a)) (managementSound l) e in
+    speaks-more (address-about a (w .0)) (speaks-management l (w .1))
 
 -- TTC fields (T1)
 
@@ -240,6 +260,20 @@ speaks-link (some l) e = speaks-one (link-about l e)
 pub first-link : (o : Option LinkInfo) → linkSound o ≡ true → firstLink (linkContents o) ≡ o
 first-link none e = refl
 first-link (some l) e = link-back l e
+
+abbrev pub flagsContents : Option Flags → List (List ℕ)
+flagsContents none = []
+flagsContents (some f) = flagsTlv f .body ∷ []
+
+pub speaks-flags : (o : Option Flags) → Speaks (ifFlagged o) capabilities (flagsContents o)
+speaks-flags none = silent capabilities
+speaks-flags (some f) = speaks-one (flags-about f)
+
+pub first-flags : (o : Option Flags) → flagsIn (first (flagsContents o)) ≡ o
+first-flags none = refl
+first-flags (some f) =
+    let joined : (n : ℕ) → pairOf (n / 256) (n % 256) ≡ n = λ n. omega arith in
+    ap₂ (λ (x y : ℕ). some (flags x y)) (joined (f .able)) (joined (f .enabled))
 
 abbrev pub listContents : Option (List ℕ) → List (List ℕ)
 listContents none = []

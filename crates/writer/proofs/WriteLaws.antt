@@ -1,7 +1,7 @@
 -- Laws of the answer: the ways to it, as the code goes them, and when each refusal is given.
 -- 9 is decided first, by the answer for an output of 1,500 octets: what keeps the rules has room there.
 use Prim.Native.Nat.{ℕ, _/_, _<_, _≤_}
-use mathlib.Core.Path.{_≡_, refl, sym, ap, _∙_}
+use mathlib.Core.Path.{_≡_, refl, sym, ap, ap₂, _∙_}
 use mathlib.Core.List.{List, _++_}
 use mathlib.Core.Bool.{Bool, true, false, not}
 use mathlib.Core.Option.{Option, none, some}
@@ -12,19 +12,22 @@ use borrow.Author.Tests.{le-leb, lt-leb}
 use lib.ListN.{length, drop}
 use lib.Seq.{take-length}
 use lib.Dec.{leb, eqb}
-use Rattle.tally.specs.Tests.{pick, both}
+use Rattle.tally.specs.Tests.{pick, both, all}
 use Rattle.tally.proofs.TestsLaws.{both-false}
 use Rattle.output.specs.Output.{Output, outputAt, puts}
 use Rattle.output.proofs.OutputLaws.{puts-fits, puts-full}
 use Rattle.found.specs.Contents.{LinkInfo}
+use Rattle.system.specs.System.{unsaid, emptySystem, systemMeant}
 use Rattle.reading.specs.Meaning.{Said, saidBy}
 use Rattle.reading.specs.declared.Description.{Description}
 use Rattle.tlvs.specs.Tlvs.{countable, countableLink, countableList}
 use Rattle.announcement.specs.Encode.{encode, countableOf}
-use Rattle.parts.specs.Inside.{allInside}
+use Rattle.announcement.proofs.EncodeLaws.{octetsBefore, without-system}
+use Rattle.parts.specs.Inside.{systemInside, allInside}
+use Rattle.parts.proofs.InsideLaws.{insideBefore, inside-without-system}
 use Rattle.description.specs.Rules.{linkSound, listSound, soundOf}
-use Rattle.description.proofs.RulesLaws.{kept, table, listed}
-use Rattle.writer.specs.Write.{refusalOfWritten, octetsWritten, keeps, writeOf, over, Writes}
+use Rattle.description.proofs.RulesLaws.{kept, table, listed, rulesBefore, rules-without-system}
+use Rattle.writer.specs.Write.{refusalOfWritten, octetsWritten, keeps, answerFor, writeOf, over, Writes}
 use Rattle.writer.specs.declared.Written.{Written}
 use Rattle.writer.specs.declared.Written.the-variants.{Octets, Refused}
 
@@ -88,6 +91,7 @@ countable-all d e =
       number = number i;
       link = link i;
       list = list i;
+      system = d .system;
     }
 
 module _ (s : List ℕ) (d : Description) where
@@ -175,3 +179,21 @@ module _ (s : List ℕ) (d : Description) (room : ℕ) where
       go true true = refl
       go true false = refl
       go false b = refl
+
+-- A description that says nothing of the system gets the answer of before there were system fields, by the tests, the rules and the octets of then; and
+-- these octets are what is written. Its empty parts must lie inside the text, as those of `empty_system` do
+module _ (s : List ℕ) (d : Description) (silent : systemMeant s (d .system) ≡ unsaid) where
+  pub octets-as-before : encode (saidBy s d) ≡ octetsBefore (saidBy s d)
+  octets-as-before = without-system (saidBy s d) silent
+
+  pub answer-as-before : all (systemInside (length s) (d .system)) ≡ true → (room : ℕ)
+      → writeOf s d room
+      ≡ answerFor (both (all (insideBefore (length s) d)) (all (rulesBefore (saidBy s d)))) (length (octetsBefore (saidBy s d))) room
+  unfolding writeOf keeps
+  answer-as-before inside room =
+      ap₂ (λ (k : Bool) (x : List ℕ). answerFor k (length x) room)
+      (ap₂ both (inside-without-system (length s) d inside) (rules-without-system (saidBy s d) silent))
+      octets-as-before
+
+pub empty-silent : (s : List ℕ) → systemMeant s emptySystem ≡ unsaid
+empty-silent s = refl

@@ -6,10 +6,16 @@ use announcement::put_lldpdu;
 use description::is_sound;
 use parts::all_inside;
 pub use reader::AddressList;
+pub use reader::Capabilities;
 pub use reader::Description;
 pub use reader::IdPart;
 pub use reader::Link;
 pub use reader::Part;
+pub use reader::Parts;
+pub use reader::System;
+pub use reader::empty_parts;
+pub use reader::empty_system;
+pub use reader::with_part;
 
 pub enum Written {
     Octets(usize),

@@ -5,9 +5,9 @@ use super::plan::{append, share, Field, Plan};
 use super::Case;
 use crate::frames::blocks::{random_chassis, CHARACTERS};
 use crate::id::Id;
-use crate::reader::Refusal;
+use crate::reader::{Capabilities, Refusal};
 use crate::rng::Rng;
-use crate::writer::{Description, LinkStrings};
+use crate::writer::{Description, LinkStrings, Management};
 
 pub const LONGEST_LLDPDU: usize = 1500;
 const LONGEST_TEXT: usize = 2000;
@@ -71,8 +71,8 @@ impl Maker {
     }
 
     /// In order, in some order with gaps and a rest, or sharing octets.
-    fn laid_out(&mut self, plan: &Plan) -> (Description, Vec<u8>) {
-        let mut order: Vec<usize> = (0..plan.strings().len()).collect();
+    pub fn laid_out(&mut self, plan: &Plan) -> (Description, Vec<u8>) {
+        let mut order = plan.numbers();
         match self.rng.below(4) {
             0 => plan.in_order(),
             1 => {
@@ -112,10 +112,14 @@ impl Maker {
             model_number: self.short(3),
             link: None,
             list: None,
+            system_name: vec![],
+            system_description: vec![],
+            capabilities: None,
+            management: Management::default(),
         }
     }
 
-    /// A sound plan in which nothing is absent or empty.
+    /// A sound plan in which nothing is absent or empty but the system fields.
     pub fn full(&mut self) -> Plan {
         let mut plan = self.plain();
         let length = self.rng.between(1, 5);
@@ -142,6 +146,28 @@ impl Maker {
         plan
     }
 
+    /// The plan with every system field there can be.
+    pub fn with_system(&mut self, mut plan: Plan) -> Plan {
+        plan.system_name = self.short(4);
+        plan.system_description = self.short(4);
+        plan.capabilities = Some(self.capabilities());
+        plan.management = self.management(4);
+        plan
+    }
+
+    /// The plan with some of the system fields.
+    pub fn with_some_system(&mut self, plan: Plan) -> Plan {
+        let mut plan = self.with_system(plan);
+        for field in [Field::SystemName, Field::SystemDescription] {
+            if self.rng.once_in(3) {
+                plan.at(field).clear();
+            }
+        }
+        plan.capabilities = plan.capabilities.filter(|_| !self.rng.once_in(3));
+        plan.management.count = self.rng.between(0, 4) as u64;
+        plan
+    }
+
     /// A sound plan of seconds 0: chassis and port ID alone (W3).
     pub fn goodbye(&mut self) -> Plan {
         let mut plan = self.plain();
@@ -161,6 +187,17 @@ impl Maker {
 
     pub fn addresses(&mut self, count: usize) -> Vec<u8> {
         self.rng.octets(6 * count)
+    }
+
+    /// Any two sets (S2).
+    pub fn capabilities(&mut self) -> Capabilities {
+        Capabilities { can: self.rng.word() as u16, enabled: self.rng.word() as u16 }
+    }
+
+    /// So many management addresses, at most four, and all of them short.
+    pub fn management(&mut self, count: usize) -> Management<Vec<u8>> {
+        let lengths: Vec<usize> = (0..count).map(|_| self.rng.between(9, 12)).collect();
+        Management::of(lengths.into_iter().map(|length| self.rng.octets(length)).collect())
     }
 
     /// One octet up to that many.

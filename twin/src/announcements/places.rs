@@ -5,15 +5,17 @@ use super::maker::Maker;
 use super::plan::{append, part, Field, Plan};
 use crate::frames::blocks::{address, local, CHARACTERS, HEX};
 use crate::id::Id;
-use crate::writer::{Description, LinkStrings, Part};
+use crate::writer::{Description, LinkStrings, Management, Part};
 
 impl Maker {
     pub fn places(&mut self) {
-        for (field, _) in Field::ALL {
-            self.at_the_end(field);
-            self.far_outside(field);
+        for &(field, _) in Field::BASIC {
+            let plan = self.full();
+            self.at_the_end(plan, field);
+            let plan = self.full();
+            self.far_outside(plan, field);
         }
-        self.absent_strings();
+        self.absent_strings(&Field::BASIC[Field::Words as usize..=Field::ModelNumber as usize]);
         self.empty_texts();
         self.shared_octets();
         self.windows();
@@ -21,23 +23,23 @@ impl Maker {
         self.rooms_for_broken();
     }
 
-    /// The field stands last in the text; a gap before each string lets no part begin at 0.
-    fn field_last(&mut self, field: Field) -> (Plan, Description, Vec<u8>) {
-        let plan = self.full();
+    /// The field stands last in the text; a gap before each string lets no part begin at 0. The
+    /// plan has all strings up to this one.
+    fn with_last(&mut self, plan: &Plan, field: Field) -> (Description, Vec<u8>) {
         let last = field as usize;
-        let mut order: Vec<usize> = (0..Field::ALL.len()).filter(|&place| place != last).collect();
+        let mut order = plan.numbers();
+        order.retain(|&number| number != last);
         self.rng.shuffle(&mut order);
         order.push(last);
-        let (description, text) = plan.laid_out(&order, |text, string| {
+        plan.laid_out(&order, |text, string| {
             text.push(self.rng.octet());
             append(text, string)
-        });
-        (plan, description, text)
+        })
     }
 
     /// A part that ends where the text ends, or one octet behind it (W7).
-    fn at_the_end(&mut self, field: Field) {
-        let (mut plan, mut description, text) = self.field_last(field);
+    pub fn at_the_end(&mut self, mut plan: Plan, field: Field) {
+        let (mut description, text) = self.with_last(&plan, field);
         let room = self.enough_for(&plan);
         let end = text.len() as u64;
         let Part { start, len } = *description.at(field);
@@ -56,8 +58,8 @@ impl Maker {
     }
 
     /// Numbers that are huge, right in their low bits only, or whose sum wraps to a small one (W7).
-    fn far_outside(&mut self, field: Field) {
-        let (plan, mut description, text) = self.field_last(field);
+    pub fn far_outside(&mut self, plan: Plan, field: Field) {
+        let (mut description, text) = self.with_last(&plan, field);
         let Part { start, len } = *description.at(field);
         for (start, len) in [
             (start + (1 << 32), len),
@@ -78,9 +80,8 @@ impl Maker {
     }
 
     /// Strings that seconds 0 wants absent, and that yet have to begin in the text (W3, W7).
-    fn absent_strings(&mut self) {
+    pub fn absent_strings(&mut self, fields: &[(Field, usize)]) {
         let plan = self.goodbye();
-        let fields = &Field::ALL[Field::Words as usize..=Field::ModelNumber as usize];
         let (mut description, mut text) = plan.in_order();
         text.extend(self.rng.octets(2));
         let end = text.len() as u64;
@@ -155,6 +156,10 @@ impl Maker {
                     addresses: part(first),
                 }),
                 list: Some(part(second)),
+                system_name: Part::default(),
+                system_description: Part::default(),
+                capabilities: None,
+                management: Management::default(),
             };
             let text = self.rng.picks(HEX, 18);
             let strings = description.with(|part| Some(vec![0; part.len as usize]));
@@ -170,22 +175,30 @@ impl Maker {
     /// Every part is some window of a short text, so that parts overlap in all ways.
     fn windows(&mut self) {
         for _ in 0..18 {
-            let mut plan = self.some();
-            // The shortest text has room for so many.
-            plan.chassis.octets.truncate(12);
-            // What may stand in a local chassis may stand in all other strings too.
-            let among = if plan.chassis.subtype == 7 { HEX } else { CHARACTERS };
-            let count = self.rng.between(12, 40);
-            let text = self.rng.picks(among, count);
-            let mut parts = Vec::new();
-            for string in plan.strings() {
-                // As long as the plan's own string, which is sound; the octets are the text's.
-                let start = self.rng.between(0, text.len() - string.len());
-                parts.push(part(start, &string));
-            }
-            let room = self.enough_for(&plan);
-            self.add_sound((plan.in_parts(parts), text), plan.length(), room);
+            let plan = self.some();
+            self.in_windows(plan);
         }
+    }
+
+    pub fn in_windows(&mut self, mut plan: Plan) {
+        // The shortest text has room for so many.
+        plan.chassis.octets.truncate(12);
+        let count = self.rng.between(12, 40);
+        let laid = self.over_one_another(&plan, count);
+        let room = self.enough_for(&plan);
+        self.add_sound(laid, plan.length(), room);
+    }
+
+    /// The plan in a text of so many octets, each string anywhere in it. It is as long as the
+    /// plan's own; the octets are the text's.
+    pub fn over_one_another(&mut self, plan: &Plan, octets: usize) -> (Description, Vec<u8>) {
+        // What may stand in a local chassis may stand in all other strings too.
+        let among = if plan.chassis.subtype == 7 { HEX } else { CHARACTERS };
+        let text = self.rng.picks(among, octets);
+        let (description, _) = plan.laid_out(&plan.numbers(), |_, string| {
+            part(self.rng.between(0, text.len() - string.len()), string)
+        });
+        (description, text)
     }
 
     /// Buffers that are empty, too short by little, exact and longer (R10, W4).

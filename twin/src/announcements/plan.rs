@@ -2,11 +2,11 @@
 //! It is laid out in a text to become a case, and what was read back becomes a plan again.
 
 use crate::reader::Reading;
-use crate::writer::{Description, LinkStrings, Part};
+use crate::writer::{Description, LinkStrings, Management, Part};
 
 pub type Plan = Description<Vec<u8>>;
 
-/// The strings of a description, in its order.
+/// The strings of a description, in its order. Those of the system fields stand last.
 #[derive(Clone, Copy, Debug, PartialEq, Eq)]
 pub enum Field {
     Chassis,
@@ -20,13 +20,20 @@ pub enum Field {
     Number,
     LinkAddresses,
     ListAddresses,
+    SystemName,
+    SystemDescription,
+    FirstManagement,
+    SecondManagement,
+    ThirdManagement,
+    FourthManagement,
 }
 
 use Field::*;
 
 impl Field {
-    /// All of them, each with the most octets that its own rule allows (L3, L4, T10, T3, T7, T8).
-    pub const ALL: [(Field, usize); 11] = [
+    /// All of them, each with the most octets that its own rule allows (L3, L4, T10, T3, T7, T8,
+    /// S1, S3).
+    const ALL: [(Field, usize); 17] = [
         (Chassis, 64),
         (Port, 255),
         (Words, 255),
@@ -38,14 +45,40 @@ impl Field {
         (Number, 4),
         (LinkAddresses, 6 * 83),
         (ListAddresses, 6 * 84),
+        (SystemName, 255),
+        (SystemDescription, 255),
+        (FirstManagement, 167),
+        (SecondManagement, 167),
+        (ThirdManagement, 167),
+        (FourthManagement, 167),
     ];
+
+    /// All but those of the system fields.
+    pub const BASIC: &[(Field, usize)] = Field::ALL.split_at(SystemName as usize).0;
+
+    /// Those of the system fields.
+    pub const SYSTEM: &[(Field, usize)] = Field::ALL.split_at(SystemName as usize).1;
 
     /// All but the chassis, whose number of octets depends on its subtype (L3).
     pub const BEHIND_CHASSIS: &[(Field, usize)] = Field::ALL.split_at(1).1;
 
-    /// Whether it may have no octets with seconds above 0 (L3, L4, W1, W2, T7, T8).
+    /// Those of them that are no system fields.
+    pub const BASIC_BEHIND_CHASSIS: &[(Field, usize)] = Field::BASIC.split_at(1).1;
+
+    /// Whether it may have no octets with seconds above 0 (L3, L4, W1, W2, T7, T8, S3).
     pub fn may_be_empty(self) -> bool {
-        matches!(self, Words | Manufacturer | ModelName | LinkAddresses | ListAddresses)
+        let by_choice = [Words, Manufacturer, ModelName, SystemName, SystemDescription];
+        by_choice.contains(&self) || matches!(self, LinkAddresses | ListAddresses)
+    }
+
+    /// The fewest octets that it has where it has any, and how many more it can have at a time: a
+    /// table has whole addresses (T7, T8), and a management address is never short (S3).
+    pub fn least_and_step(self) -> (usize, usize) {
+        match self {
+            LinkAddresses | ListAddresses => (6, 6),
+            FirstManagement | SecondManagement | ThirdManagement | FourthManagement => (9, 1),
+            _ => (1, 1),
+        }
     }
 }
 
@@ -64,6 +97,12 @@ impl<S> Description<S> {
             Number => &mut self.link_strings().number,
             LinkAddresses => &mut self.link_strings().addresses,
             ListAddresses => self.list.as_mut().expect("the address list is present"),
+            SystemName => &mut self.system_name,
+            SystemDescription => &mut self.system_description,
+            FirstManagement => &mut self.management.slots[0],
+            SecondManagement => &mut self.management.slots[1],
+            ThirdManagement => &mut self.management.slots[2],
+            FourthManagement => &mut self.management.slots[3],
         }
     }
 
@@ -90,25 +129,35 @@ impl Plan {
                 addresses: link.addresses.concat(),
             }),
             list: reading.list.as_ref().map(|addresses| addresses.concat()),
+            system_name: reading.system_name.clone(),
+            system_description: reading.system_description.clone(),
+            capabilities: reading.capabilities,
+            management: Management::of(reading.management.clone()),
         }
     }
 
     /// How many octets the LLDPDU would have (W1), from the lengths of the strings alone: the two
-    /// octets of each header, and L by L3 to L5, T2, T7 and T8.
+    /// octets of each header, and L by L3 to L5, T2, T7, T8 and S1 to S3.
     pub(super) fn length(&self) -> usize {
         let [chassis, port] = [&self.chassis, &self.port].map(|id| 2 + 1 + id.octets.len());
-        let words = if self.words.is_empty() { 0 } else { 2 + self.words.len() };
-        let devices: usize =
-            [&self.category, &self.manufacturer, &self.model_name, &self.model_number]
-                .iter()
-                .filter(|string| !string.is_empty())
-                .map(|string| 2 + 6 + string.len())
-                .sum();
+        let if_any = |besides, strings: &[&Vec<u8>]| -> usize {
+            let there = strings.iter().filter(|string| !string.is_empty());
+            there.map(|string| besides + string.len()).sum()
+        };
+        let texts = if_any(2, &[&self.words, &self.system_name, &self.system_description]);
+        let capabilities = self.capabilities.map_or(0, |_| 2 + 4);
+        let management: usize =
+            self.management.given().iter().map(|address| 2 + address.len()).sum();
+        let devices = if_any(
+            2 + 6,
+            &[&self.category, &self.manufacturer, &self.model_name, &self.model_number],
+        );
         let link = self.link.as_ref().map_or(0, |LinkStrings { interface, number, addresses }| {
             2 + 7 + interface.len() + number.len() + addresses.len()
         });
         let list = self.list.as_ref().map_or(0, |addresses| 2 + 5 + addresses.len());
-        chassis + port + (2 + 2) + words + devices + link + list + 2
+        let first_three = chassis + port + (2 + 2);
+        first_three + texts + capabilities + management + devices + link + list + 2
     }
 
     /// All strings that are there, in the order of the description.
@@ -121,13 +170,21 @@ impl Plan {
         strings
     }
 
-    /// The strings stand in the text one behind the other, in their order.
-    pub(super) fn in_order(&self) -> (Description, Vec<u8>) {
-        let order: Vec<usize> = (0..self.strings().len()).collect();
-        self.laid_out(&order, append)
+    /// The strings that a text is made of, by their numbers. System fields that are not there take
+    /// no part in it.
+    pub(super) fn numbers(&self) -> Vec<usize> {
+        let strings = self.strings();
+        let basic = strings.len() - 2 - self.management.given().len();
+        (0..strings.len()).filter(|&i| i < basic || !strings[i].is_empty()).collect()
     }
 
-    /// The strings are put into the text in the given order.
+    /// The strings stand in the text one behind the other, in their order.
+    pub(super) fn in_order(&self) -> (Description, Vec<u8>) {
+        self.laid_out(&self.numbers(), append)
+    }
+
+    /// The strings are put into the text in the given order. What is not put there has the empty
+    /// part that begins at 0, which lies in any text.
     pub(super) fn laid_out(
         &self,
         order: &[usize],
@@ -135,7 +192,7 @@ impl Plan {
     ) -> (Description, Vec<u8>) {
         let strings = self.strings();
         let mut text = Vec::new();
-        let mut parts = vec![Part { start: 0, len: 0 }; strings.len()];
+        let mut parts = vec![Part::default(); strings.len()];
         for &place in order {
             parts[place] = put(&mut text, &strings[place]);
         }
@@ -143,7 +200,7 @@ impl Plan {
     }
 
     /// The description with these parts for its strings.
-    pub(super) fn in_parts(&self, parts: Vec<Part>) -> Description {
+    fn in_parts(&self, parts: Vec<Part>) -> Description {
         let mut parts = parts.into_iter();
         self.with(|_| parts.next()).expect("each string has its part")
     }

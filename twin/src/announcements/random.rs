@@ -8,8 +8,33 @@ use crate::writer::Part;
 
 impl Maker {
     pub fn random(&mut self) {
-        for round in 0..60 {
-            let plan = self.random_plan(round % 10 == 9);
+        self.compositions(60, 40, Maker::random_plan, Maker::break_a_rule);
+        for _ in 0..20 {
+            let plan = self.random_plan(false);
+            self.part_too_far(plan, &Field::BASIC[..=Field::ModelNumber as usize]);
+        }
+    }
+
+    /// The same with system fields.
+    pub fn random_of_systems(&mut self) {
+        self.compositions(40, 28, Maker::random_plan_of_systems, Maker::break_any_rule);
+        for _ in 0..12 {
+            let plan = self.some();
+            let plan = self.with_system(plan);
+            self.part_too_far(plan, Field::SYSTEM);
+        }
+    }
+
+    /// So many sound plans, and so many in which something is broken.
+    fn compositions(
+        &mut self,
+        sound: usize,
+        broken: usize,
+        random_plan: fn(&mut Maker, bool) -> Plan,
+        break_a_rule: fn(&mut Maker, &mut Plan),
+    ) {
+        for round in 0..sound {
+            let plan = random_plan(self, round % 10 == 9);
             let length = plan.length();
             let room = match round % 4 {
                 0 => self.rng.below(length),
@@ -22,10 +47,10 @@ impl Maker {
                 self.broken_in(&plan, room.min(1600));
             }
         }
-        for round in 0..40 {
-            let mut plan = self.random_plan(false);
+        for round in 0..broken {
+            let mut plan = random_plan(self, false);
             for _ in 0..self.rng.between(1, 2) {
-                self.break_a_rule(&mut plan);
+                break_a_rule(self, &mut plan);
             }
             let room = match round % 4 {
                 0 => self.rng.below(plan.length().min(1600)),
@@ -33,7 +58,6 @@ impl Maker {
             };
             self.broken_in(&plan, room);
         }
-        self.random_parts();
     }
 
     /// A sound plan, but that its LLDPDU may be too long where the strings are long.
@@ -42,17 +66,8 @@ impl Maker {
         if self.rng.once_in(6) {
             plan = self.goodbye();
         }
-        for &(field, longest) in &Field::ALL[Field::Port as usize..=Field::ModelNumber as usize] {
-            if !plan.at(field).is_empty() {
-                let length = match self.rng.below(8) {
-                    0 => longest,
-                    1 => self.rng.between(1, longest),
-                    _ if long => longest,
-                    _ => self.rng.between(1, longest.min(12)),
-                };
-                *plan.at(field) = self.string(field, length);
-            }
-        }
+        let fields = &Field::BASIC[Field::Port as usize..=Field::ModelNumber as usize];
+        self.random_strings(&mut plan, fields, long);
         let most = if long { 82 } else { 4 };
         if plan.link.is_some() {
             let count = self.rng.between(0, most);
@@ -63,6 +78,51 @@ impl Maker {
             plan.list = Some(self.addresses(count));
         }
         plan
+    }
+
+    /// The same with system fields, and only they may be long. A goodbye has none (W3).
+    fn random_plan_of_systems(&mut self, long: bool) -> Plan {
+        if self.rng.once_in(8) {
+            return self.goodbye();
+        }
+        let plan = self.some();
+        let mut plan = self.with_some_system(plan);
+        self.random_strings(&mut plan, Field::SYSTEM, long);
+        plan
+    }
+
+    /// Those of the strings that have octets get others, of any length that is allowed.
+    fn random_strings(&mut self, plan: &mut Plan, fields: &[(Field, usize)], long: bool) {
+        for &(field, longest) in fields {
+            if !plan.at(field).is_empty() {
+                let (least, _) = field.least_and_step();
+                let length = match self.rng.below(8) {
+                    0 => longest,
+                    1 => self.rng.between(least, longest),
+                    _ if long => longest,
+                    _ => self.rng.between(least, longest.min(12)),
+                };
+                *plan.at(field) = self.string(field, length);
+            }
+        }
+    }
+
+    /// As `break_a_rule`, but mostly a rule of the system fields (W7).
+    fn break_any_rule(&mut self, plan: &mut Plan) {
+        let more = self.rng.between(1, 9);
+        match self.rng.below(8) {
+            0 => plan.system_name = self.rng.octets(255 + more),
+            1 => plan.system_description = self.rng.octets(255 + more),
+            2 | 3 => {
+                let count = self.rng.between(1, 4);
+                plan.management = self.management(count);
+                let length = if self.rng.once_in(2) { 9 - more } else { 167 + more };
+                plan.management.slots[self.rng.below(count)] = self.rng.octets(length);
+            }
+            4 => plan.management.count = 4 + more as u64,
+            5 => plan.management.count = self.rng.word() | 1 << 63,
+            _ => self.break_a_rule(plan),
+        }
     }
 
     /// Breaks one rule; a second one broken on top of it cannot mend the first.
@@ -102,21 +162,18 @@ impl Maker {
     }
 
     /// One part of a sound description is moved or stretched at random, and always too far (W7).
-    fn random_parts(&mut self) {
-        for _ in 0..20 {
-            let plan = self.random_plan(false);
-            let (mut description, text) = plan.in_order();
-            let (field, _) = self.rng.pick(&Field::ALL[..=Field::ModelNumber as usize]);
-            let part = description.at(field);
-            let far = self.rng.word() >> self.rng.below(56);
-            let far = far.max(text.len() as u64 + 1);
-            *part = match self.rng.below(3) {
-                0 => Part { start: far, len: part.len },
-                1 => Part { start: part.start, len: far },
-                _ => Part { start: far, len: far.wrapping_neg() },
-            };
-            let room = self.enough_for(&plan);
-            self.add((description, text), room, Err(9));
-        }
+    fn part_too_far(&mut self, plan: Plan, fields: &[(Field, usize)]) {
+        let (mut description, text) = plan.in_order();
+        let (field, _) = self.rng.pick(fields);
+        let part = description.at(field);
+        let far = self.rng.word() >> self.rng.below(56);
+        let far = far.max(text.len() as u64 + 1);
+        *part = match self.rng.below(3) {
+            0 => Part { start: far, len: part.len },
+            1 => Part { start: part.start, len: far },
+            _ => Part { start: far, len: far.wrapping_neg() },
+        };
+        let room = self.enough_for(&plan);
+        self.add((description, text), room, Err(9));
     }
 }

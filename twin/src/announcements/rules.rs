@@ -54,10 +54,26 @@ impl Maker {
 
     /// One string gets each of these lengths in turn.
     fn lengths(&mut self, field: Field, allowed: &[usize], refused: &[usize]) {
+        self.lengths_in(Maker::some_with_link, field, allowed, refused);
+    }
+
+    fn some_with_link(&mut self) -> Plan {
+        let mut plan = self.some();
+        plan.link.get_or_insert(self.link(1));
+        plan
+    }
+
+    /// One string of plans that are made so gets each of these lengths in turn.
+    pub fn lengths_in(
+        &mut self,
+        made: fn(&mut Maker) -> Plan,
+        field: Field,
+        allowed: &[usize],
+        refused: &[usize],
+    ) {
         for (lengths, is_sound) in [(allowed, true), (refused, false)] {
             for &length in lengths {
-                let mut plan = self.some();
-                plan.link.get_or_insert(self.link(1));
+                let mut plan = made(self);
                 *plan.at(field) = self.string(field, length);
                 self.judged(&plan, is_sound);
             }
@@ -332,7 +348,7 @@ impl Maker {
         plan.chassis = chassis.clone();
         // With 83 addresses that leaves L at 511 (T7).
         let (n, m) = self.rng.pick(&[(2, 4), (3, 3), (4, 2)]);
-        for &(field, longest) in Field::BEHIND_CHASSIS {
+        for &(field, longest) in Field::BASIC_BEHIND_CHASSIS {
             let length = match field {
                 Field::Interface => n,
                 Field::Number => m,
@@ -350,20 +366,22 @@ impl Maker {
     }
 
     /// The same with this chassis.
-    fn of_length_with(&mut self, chassis: &Id, total: usize) -> Plan {
+    pub fn of_length_with(&mut self, chassis: &Id, total: usize) -> Plan {
         let mut plan = self.fullest(chassis);
+        self.shorten(&mut plan, Field::BASIC_BEHIND_CHASSIS, total);
+        plan
+    }
+
+    /// Takes octets from these strings until the LLDPDU would have exactly that many.
+    pub fn shorten(&mut self, plan: &mut Plan, fields: &[(Field, usize)], total: usize) {
         while plan.length() > total {
             let too_many = plan.length() - total;
-            let (field, _) = self.rng.pick(Field::BEHIND_CHASSIS);
-            let step = match field {
-                Field::LinkAddresses | Field::ListAddresses => 6,
-                _ => 1,
-            };
-            // One octet or address is left, so that no header goes with the last of them.
+            let (field, _) = self.rng.pick(fields);
+            // Something is left of each, so that no header goes with the last of it.
+            let (least, step) = field.least_and_step();
             let length = plan.at(field).len();
-            let steps = (too_many.min(length - step) / step).min(self.rng.between(1, 40));
+            let steps = (too_many.min(length - least) / step).min(self.rng.between(1, 40));
             plan.at(field).truncate(length - steps * step);
         }
-        plan
     }
 }

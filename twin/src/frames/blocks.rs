@@ -223,6 +223,39 @@ pub fn description(text: &[u8]) -> Tlv {
     tlv(4, text)
 }
 
+/// A system field of type 5 to 8 and of a right length (S1 to S3). With another tag it has other
+/// octets.
+pub fn system_field(kind: u8, tag: u8) -> Tlv {
+    let length = match kind {
+        7 => 4,
+        8 => 9,
+        _ => 3,
+    };
+    system_field_of(kind, tag, length)
+}
+
+/// The same with a wrong length: one octet too many, or too few where it is a management address.
+pub fn wrong_system_field(kind: u8, tag: u8) -> Tlv {
+    let length = match kind {
+        7 => 5,
+        8 => 8,
+        _ => 256,
+    };
+    system_field_of(kind, tag, length)
+}
+
+/// The tag, and then counted octets.
+fn system_field_of(kind: u8, tag: u8, length: usize) -> Tlv {
+    let value: Vec<u8> = (0..length).map(|i| if i == 0 { tag } else { i as u8 }).collect();
+    tlv(kind, &value)
+}
+
+/// Each type of system field, the last of them twice.
+pub fn every_system_field() -> [Tlv; 5] {
+    [(5, 0x51), (6, 0x61), (7, 0x71), (8, 0x81), (8, 0x82)]
+        .map(|(kind, tag)| system_field(kind, tag))
+}
+
 pub fn neighbour(number: u8) -> Address {
     [0x02, 0x00, 0x00, 0x00, 0x20, number]
 }

@@ -60,6 +60,13 @@ impl Maker {
         self.frame(inside);
     }
 
+    /// A frame that is HTIP but for the given TLVs, and a bare LLDPDU that has them alone and so is
+    /// not HTIP.
+    pub fn htip_and_not(&mut self, tlvs: &[Tlv]) {
+        self.with(tlvs);
+        self.bare(lldpdu(&leading(), tlvs));
+    }
+
     /// An LLDPDU that is HTIP but for the given TLVs.
     pub fn beside(&mut self, tlvs: &[Tlv]) -> Vec<u8> {
         self.among(&[category(), model_number()], tlvs)

@@ -7,18 +7,21 @@ use super::Kind;
 use crate::id::Id;
 use crate::reader::Address;
 
+/// Makes the TLVs between the third and the End, with addresses of the pool, spoilt or not.
+type Later = fn(&mut Maker, &[Address], bool) -> Vec<Tlv>;
+
 impl Maker {
-    /// Random composition: HTIP, not HTIP, and damaged.
-    pub fn random(&mut self) {
-        for round in 0..160 {
-            let (lldpdu, asked) = self.random_lldpdu(round % 2 == 1);
+    /// Random composition: so many that are HTIP or not, and so many that are damaged.
+    pub fn random(&mut self, later: Later, whole: usize, damaged: usize) {
+        for round in 0..whole {
+            let (lldpdu, asked) = self.random_lldpdu(later, round % 2 == 1);
             match round % 10 {
                 0 | 1 => self.add(Kind::Bare, lldpdu, asked),
                 _ => self.frame_asking(lldpdu, asked),
             }
         }
-        for round in 0..140 {
-            let (lldpdu, asked) = self.random_lldpdu(round % 4 == 3);
+        for round in 0..damaged {
+            let (lldpdu, asked) = self.random_lldpdu(later, round % 4 == 3);
             let kind = if round % 5 == 0 { Kind::Bare } else { Kind::Frame };
             // One time in eight the header may be damaged too, else only what stands behind it. One
             // time in eight the source is a group address, and the damage is not looked at (F4).
@@ -54,14 +57,14 @@ impl Maker {
     }
 
     /// A valid LLDPDU with padding, and an address to ask for. It is HTIP exactly if not spoilt.
-    fn random_lldpdu(&mut self, spoilt: bool) -> (Vec<u8>, Address) {
+    fn random_lldpdu(&mut self, later: Later, spoilt: bool) -> (Vec<u8>, Address) {
         let pool = pool();
         let chassis = random_chassis(&mut self.rng);
         let subtype = self.rng.between(1, 7) as u8;
         let length = self.rng.between(1, 12);
         let port = Id { subtype, octets: self.rng.octets(length) };
         let seconds = u16::from_be_bytes([self.rng.octet(), self.rng.octet()]);
-        let later = self.random_later(&pool, spoilt);
+        let later = later(self, &pool, spoilt);
         let inside = lldpdu(&leading_of(&chassis, &port, seconds), &later);
         ([inside, self.random_padding()].concat(), self.rng.pick(&pool))
     }
@@ -102,6 +105,33 @@ impl Maker {
         }
         self.rng.shuffle(&mut later);
         later
+    }
+
+    /// The same with system fields among them, often several of a type. They spoil nothing (H1).
+    pub fn random_later_of_systems(&mut self, pool: &[Address], spoilt: bool) -> Vec<Tlv> {
+        let mut later = self.random_later(pool, spoilt);
+        for _ in 0..self.rng.between(1, 8) {
+            later.push(self.random_system_field());
+        }
+        self.rng.shuffle(&mut later);
+        later
+    }
+
+    /// Mostly of a right length, and often at the limits (S1 to S3).
+    fn random_system_field(&mut self) -> Tlv {
+        let kind = self.rng.pick(&[5, 6, 7, 8, 8, 8]);
+        let length = match (kind, self.rng.below(8)) {
+            (5 | 6, 0) => self.rng.pick(&[255, 256, 256, 257]),
+            (5 | 6, _) => self.rng.between(0, 12),
+            (7, 0 | 1) => self.rng.pick(&[0, 2, 3, 5, 6, 8]),
+            (7, _) => 4,
+            (_, 0) => self.rng.pick(&[9, 166, 167, 168]),
+            (_, 1 | 2) => self.rng.between(0, 8),
+            _ => self.rng.between(9, 20),
+        };
+        // Now and then no bit is set: of capabilities, no flag (A3).
+        let value = if self.rng.once_in(4) { vec![0; length] } else { self.rng.octets(length) };
+        tlv(kind, &value)
     }
 
     /// What may follow the End (L8).

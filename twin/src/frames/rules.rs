@@ -68,9 +68,13 @@ impl Maker {
         }
     }
 
-    /// A valid LLDPDU of exactly that many octets, filled up with skipped TLVs.
+    /// A valid LLDPDU of exactly that many octets.
     fn filled(&mut self, length: usize) -> Vec<u8> {
-        let mut inside = typical();
+        self.filled_up(typical(), length)
+    }
+
+    /// The LLDPDU filled up with skipped TLVs to exactly that many octets.
+    pub(super) fn filled_up(&mut self, mut inside: Vec<u8>, length: usize) -> Vec<u8> {
         inside.truncate(inside.len() - end().len());
         let mut missing = length - end().len() - inside.len();
         while missing > 0 {
@@ -298,7 +302,7 @@ impl Maker {
     }
 
     /// The LLDPDU ends one octet before the end of this TLV, and exactly there.
-    fn cut_and_whole(&mut self, before: &[u8], last: Tlv) {
+    pub(super) fn cut_and_whole(&mut self, before: &[u8], last: Tlv) {
         let whole = [before, &last].concat();
         self.frame(whole[..whole.len() - 1].to_vec());
         self.frame(whole);
@@ -631,10 +635,9 @@ impl Maker {
             &[&long_number, &other],
             &[&bad, &no_interface, &long_number, &empty, &other, &again],
         ];
+        // Naming does not depend on the verdict.
         for row in rows {
-            self.with(&cloned(row));
-            // The same without a category: naming does not depend on the verdict.
-            self.bare(lldpdu(&leading(), &cloned(row)));
+            self.htip_and_not(&cloned(row));
         }
         let one = list(&[neighbour(1)]);
         let two = list(&[neighbour(2), SOUGHT]);
@@ -703,7 +706,8 @@ impl Maker {
         }
     }
 
-    /// Types that are skipped, whatever their information string looks like (L9).
+    /// Types that are skipped, whatever their information string looks like (L9). The system fields
+    /// before them spoil nothing either, and are not looked into (S1 to S3).
     fn skipped_types(&mut self) {
         let looks_like = link(&[6], &[3], &[SOUGHT])[2..].to_vec();
         for kind in [5, 6, 7, 8, 9, 63, 64, 125, 126] {
@@ -816,6 +820,6 @@ fn off_by_one(k: usize, octets: &[u8]) -> [(usize, Vec<u8>); 5] {
     ]
 }
 
-fn cloned(row: &[&Tlv]) -> Vec<Tlv> {
+pub(super) fn cloned(row: &[&Tlv]) -> Vec<Tlv> {
     row.iter().map(|&tlv| tlv.clone()).collect()
 }

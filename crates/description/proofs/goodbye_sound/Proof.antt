@@ -1,12 +1,12 @@
--- `description::goodbye_sound` meets its contract: seven absences, front to back.
+-- `description::goodbye_sound` meets its contract: eight absences, front to back.
 -- One test that fails decides (all-fails of TestsLaws); where all pass, the last return cites them.
 use mathlib.Core.Path.{sym, _∙_}
 use denote.Ref.{now}
 use borrow.Author.Tests.{eq-eqb, ne-eqb, not-true, not-false}
 use borrow.Author.Needs.{needs}
 use Rattle.tally.proofs.TestsLaws.{all-fails, both-end}
-use Rattle.description.specs.Rules.{goodbyeRules, noList}
-use Rattle.reading.specs.Meaning.{saidBy, listMeant}
+use Rattle.description.specs.Rules.{goodbyeRules}
+use Rattle.reading.specs.Meaning.{saidBy}
 use Rattle.description.proofs.RulesLaws.{no-link-same, no-list-same}
 use Rattle.description.proofs.goodbye_sound.Statement.{statement}
 use Rattle.description.proofs.goodbye_sound.Tie as tie
@@ -55,7 +55,16 @@ no-list-requires c κs = search needs
 
 returns-7 : tie.Need-returns-7
 returns-7 c =
-    let c1 = c .before in
+    let s = now (c .before .before .before .before .before .before .before .before .before .before .before .before .before .before .before .args .text) in
+    let d = c .before .before .before .before .before .before .before .before .before .before .before .before .before .before .before .args .d in
+    sym (all-fails (goodbyeRules (saidBy s d)) 6 (sym (no-list-same s (d .list)) ∙ sym (c .before .no-list .ensures) ∙ not-true _ (c .if7 .taken)))
+
+system-absent-requires : tie.Need-system-absent-requires
+system-absent-requires c κs = search needs
+
+returns-8 : tie.Need-returns-8
+returns-8 c =
+    let c1 = c .before .before in
     let c2 = c1 .before in
     let c3 = c2 .before in
     let c4 = c3 .before in
@@ -67,21 +76,24 @@ returns-7 c =
     let c10 = c9 .before in
     let c11 = c10 .before in
     let c12 = c11 .before in
-    let c13 = c12 .before .before in
+    let c13 = c12 .before in
+    let c14 = c13 .before in
+    let c15 = c14 .before .before in
     rw (
-      ← c12 .count-of .ensures,
-      ← c10 .count-of2 .ensures,
-      ← c8 .count-of3 .ensures,
-      ← c6 .count-of4 .ensures,
-      ← c4 .count-of5 .ensures,
-      eq-eqb (c12 .count-of .result) 0 (c11 .if1 .left),
-      eq-eqb (c10 .count-of2 .result) 0 (c9 .if2 .left),
-      eq-eqb (c8 .count-of3 .result) 0 (c7 .if3 .left),
-      eq-eqb (c6 .count-of4 .result) 0 (c5 .if4 .left),
-      eq-eqb (c4 .count-of5 .result) 0 (c3 .if5 .left),
-      sym (no-link-same (now (c13 .args .text)) (c13 .args .d .link)) ∙ sym (c2 .no-link .ensures) ∙ not-false (c2 .no-link .result) (c1 .if6 .left),
+      ← c14 .count-of .ensures,
+      ← c12 .count-of2 .ensures,
+      ← c10 .count-of3 .ensures,
+      ← c8 .count-of4 .ensures,
+      ← c6 .count-of5 .ensures,
+      eq-eqb (c14 .count-of .result) 0 (c13 .if1 .left),
+      eq-eqb (c12 .count-of2 .result) 0 (c11 .if2 .left),
+      eq-eqb (c10 .count-of3 .result) 0 (c9 .if3 .left),
+      eq-eqb (c8 .count-of4 .result) 0 (c7 .if4 .left),
+      eq-eqb (c6 .count-of5 .result) 0 (c5 .if5 .left),
+      sym (no-link-same (now (c15 .args .text)) (c15 .args .d .link)) ∙ sym (c4 .no-link .ensures) ∙ not-false (c4 .no-link .result) (c3 .if6 .left),
+      sym (no-list-same (now (c15 .args .text)) (c15 .args .d .list)) ∙ sym (c2 .no-list .ensures) ∙ not-false (c2 .no-list .result) (c1 .if7 .left),
     )
-    (c .no-list .ensures ∙ no-list-same (now (c13 .args .text)) (c13 .args .d .list) ∙ sym (both-end (noList (listMeant (now (c13 .args .text)) (c13 .args .d .list)))))
+    (c .system-absent .ensures ∙ sym (both-end _))
 
 pub goodbye-sound-spec : {M : Type 1} → statement M
 goodbye-sound-spec =
@@ -100,4 +112,6 @@ goodbye-sound-spec =
     no-link-requires
     returns-6
     no-list-requires
-    returns-7)
+    returns-7
+    system-absent-requires
+    returns-8)

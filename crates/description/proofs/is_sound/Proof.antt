@@ -80,13 +80,21 @@ returns-6 : tie.Need-returns-6
 unfolding soundOf
 returns-6 c = sym (all-fails (asked (c .before .before .before .before .before .before .before .before .before .before .before .before .before .before .before .before .before .before)) 5 (sym (c .before .list-sound .ensures) ∙ not-true _ (c .if6 .taken)))
 
-is-timely-requires : tie.Need-is-timely-requires
-is-timely-requires c κs = search needs
+system-fits-requires : tie.Need-system-fits-requires
+system-fits-requires c κs = search needs
 
 returns-7 : tie.Need-returns-7
 unfolding soundOf
-returns-7 c =
-    let c6 = c .before in
+returns-7 c = sym (all-fails (asked (c .before .before .before .before .before .before .before .before .before .before .before .before .before .before .before .before .before .before .before .before .before)) 6 (sym (c .before .system-fits .ensures) ∙ not-true _ (c .if7 .taken)))
+
+is-timely-requires : tie.Need-is-timely-requires
+is-timely-requires c κs = search needs
+
+returns-8 : tie.Need-returns-8
+unfolding soundOf
+returns-8 c =
+    let c7 = c .before in
+    let c6 = c7 .before .before .before in
     let c5 = c6 .before .before in
     let c4 = c5 .before .before in
     let c3 = c4 .before .before in
@@ -99,6 +107,7 @@ returns-7 c =
       sym (c4 .before .strings-sound .ensures) ∙ not-false _ (c4 .if4 .left),
       sym (c5 .before .link-sound .ensures) ∙ not-false _ (c5 .if5 .left),
       sym (c6 .before .list-sound .ensures) ∙ not-false _ (c6 .if6 .left),
+      sym (c7 .before .system-fits .ensures) ∙ not-false _ (c7 .if7 .left),
     )
     (c .is-timely .ensures ∙ sym (both-end _))
 
@@ -121,5 +130,7 @@ is-sound-spec =
     returns-5
     list-sound-requires
     returns-6
+    system-fits-requires
+    returns-7
     is-timely-requires
-    returns-7)
+    returns-8)

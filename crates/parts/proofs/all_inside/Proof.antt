@@ -1,4 +1,4 @@
--- `parts::all_inside` meets its contract: nine tests, front to back.
+-- `parts::all_inside` meets its contract: ten tests, front to back.
 -- One test that fails decides (all-fails of TestsLaws); where all pass, the last return cites them.
 use mathlib.Core.List.{List}
 use mathlib.Core.Bool.{Bool}
@@ -75,8 +75,16 @@ list-inside-requires c κs = search needs
 
 returns-9 : tie.Need-returns-9
 unfolding allInside
-returns-9 c =
-    let c8 = c .before in
+returns-9 c = sym (all-fails (asked (c .before .before .before .before .before .before .before .before .before .before .before .before .before .before .before .before .before .before .before .before)) 8 (sym (c .before .list-inside .ensures) ∙ not-true _ (c .if9 .taken)))
+
+system-inside-requires : tie.Need-system-inside-requires
+system-inside-requires c κs = search needs
+
+returns-10 : tie.Need-returns-10
+unfolding allInside
+returns-10 c =
+    let c9 = c .before .before in
+    let c8 = c9 .before .before in
     let c7 = c8 .before .before in
     let c6 = c7 .before .before in
     let c5 = c6 .before .before in
@@ -93,8 +101,9 @@ returns-9 c =
       sym (c6 .before .part-inside6 .ensures) ∙ not-false _ (c6 .if6 .left),
       sym (c7 .before .part-inside7 .ensures) ∙ not-false _ (c7 .if7 .left),
       sym (c8 .before .link-inside .ensures) ∙ not-false _ (c8 .if8 .left),
+      sym (c9 .before .list-inside .ensures) ∙ not-false _ (c9 .if9 .left),
     )
-    (c .list-inside .ensures ∙ sym (both-end _))
+    (c .system-inside .ensures ∙ sym (both-end _))
 
 pub all-inside-spec : {M : Type 1} → statement M
 all-inside-spec =
@@ -117,4 +126,6 @@ all-inside-spec =
     link-inside-requires
     returns-8
     list-inside-requires
-    returns-9)
+    returns-9
+    system-inside-requires
+    returns-10)

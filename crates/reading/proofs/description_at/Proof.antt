@@ -47,16 +47,20 @@ element-copy-out-list-at c = search needs
 list-at-requires : tie.Need-list-at-requires
 list-at-requires c κs = search needs
 
+system-at-requires : tie.Need-system-at-requires
+system-at-requires c κs = search needs
+
 returns : tie.Need-returns
 returns c =
     rw (
-      c .before .before .before .before .before .before .before .before .before .before .before .before .part-at .ensures,
-      c .before .before .before .before .before .before .before .before .before .before .part-at2 .ensures,
-      c .before .before .before .before .before .before .before .before .part-at3 .ensures,
-      c .before .before .before .before .before .before .part-at4 .ensures,
-      c .before .before .before .before .part-at5 .ensures,
-      c .before .before .link-at .ensures,
-      c .list-at .ensures,
+      c .before .before .before .before .before .before .before .before .before .before .before .before .before .part-at .ensures,
+      c .before .before .before .before .before .before .before .before .before .before .before .part-at2 .ensures,
+      c .before .before .before .before .before .before .before .before .before .part-at3 .ensures,
+      c .before .before .before .before .before .before .before .part-at4 .ensures,
+      c .before .before .before .before .before .part-at5 .ensures,
+      c .before .before .before .link-at .ensures,
+      c .before .list-at .ensures,
+      c .system-at .ensures,
     )
     refl
 
@@ -78,4 +82,5 @@ description-at-spec =
     link-at-requires
     element-copy-out-list-at
     list-at-requires
+    system-at-requires
     returns)

@@ -1,6 +1,6 @@
 -- `walk::step_at` meets its contract: each return by the header and the tests that led to it.
 -- A whole TLV ends within the slice (whole-fits), so its start does not wrap.
-use mathlib.Core.Path.{refl, sym, _∙_}
+use mathlib.Core.Path.{_≡_, refl, sym, _∙_}
 use native.Mathlib.Omega.{arith}
 use denote.Ref.{now}
 use borrow.Author.Tests.{eq-eqb, ne-eqb, le-leb, lt-leb, lt-ltb, le-ltb}
@@ -40,7 +40,9 @@ returns-3 c =
 
 returns-4 : tie.Need-returns-4
 unfolding stepOf
-returns-4 c = rw (sym (c .before .before .before .before .before .head-at .ensures) ∙ c .before .before .before .kind .given .1, c .before .match2 .keys2, lt-ltb _ 4 (c .if2 .taken))
+returns-4 c =
+    let organized : c .before .before .before .kind .given .0 .0 ≡ 127 = c .before .match2 .keys2 in
+    rw (sym (c .before .before .before .before .before .head-at .ensures) ∙ c .before .before .before .kind .given .1, organized, lt-ltb _ 4 (c .if2 .taken))
 
 returns-5 : tie.Need-returns-5
 unfolding stepOf
