@@ -1,6 +1,7 @@
 //! The announcements: descriptions on both sides of every rule of the writer, then random ones.
 //! The case file and the text that is expected for it are made here.
 
+mod extension;
 mod maker;
 mod places;
 mod plan;
@@ -36,6 +37,7 @@ pub fn cases() -> Vec<Case> {
     maker.random();
     maker.system_fields();
     maker.random_of_systems();
+    maker.extensions();
     maker.cases
 }
 
@@ -69,6 +71,7 @@ pub fn case_file(cases: &[Case]) -> Vec<u8> {
         // All four slots are in the file, whatever the count is.
         file.extend(description.management.count.to_be_bytes());
         file.extend(description.management.slots.map(part_octets).as_flattened());
+        file.extend(flagged(description.extension.map(|octets| [part_octets(octets)])));
         file.extend(two_octets(*room));
         file.extend(two_octets(text.len()));
         file.extend(text);
@@ -139,12 +142,12 @@ mod tests {
         cases().into_iter().filter_map(written).collect()
     }
 
-    /// A record has 295 octets besides its text, whatever is absent.
+    /// A record has 312 octets besides its text, whatever is absent.
     #[test]
     fn the_case_file_has_records_of_known_length() {
         let cases = cases();
         let texts: usize = cases.iter().map(|case| case.text.len()).sum();
-        assert_eq!(case_file(&cases).len(), 295 * cases.len() + texts);
+        assert_eq!(case_file(&cases).len(), 312 * cases.len() + texts);
     }
 
     /// Each number stands where it is looked for; the unused slots are there as well.
@@ -157,6 +160,7 @@ mod tests {
         case.description.capabilities = Some(Capabilities { can: 0x0708, enabled: 0x090A });
         case.description.management.count = u64::MAX - 1;
         case.description.management.slots = [part(1, 9), part(2, 10), part(3, 11), part(4, 12)];
+        case.description.extension = Some(part(5, 13));
         case.room = 0x0B0C;
         case.text = b"text".to_vec();
         let file = case_file(&[case.clone()]);
@@ -169,10 +173,14 @@ mod tests {
         assert_eq!(number(219, 8), u64::MAX - 1);
         assert_eq!([227, 243, 259, 275].map(|at| number(at, 8)), [1, 2, 3, 4]);
         assert_eq!([235, 251, 267, 283].map(|at| number(at, 8)), [9, 10, 11, 12]);
-        assert_eq!([291, 293].map(|at| number(at, 2)), [0x0B0C, 4]);
-        assert_eq!(file[295..], *b"text");
+        assert_eq!([number(291, 1), number(292, 8), number(300, 8)], [1, 5, 13]);
+        assert_eq!([308, 310].map(|at| number(at, 2)), [0x0B0C, 4]);
+        assert_eq!(file[312..], *b"text");
         case.description.capabilities = None;
-        assert_eq!(case_file(&[case])[214..219], [0; 5]);
+        case.description.extension = None;
+        let file = case_file(&[case]);
+        assert_eq!(file[214..219], [0; 5]);
+        assert_eq!(file[291..308], [0; 17]);
     }
 
     /// A rule that hardly ever decides would hardly be compared.
@@ -212,6 +220,34 @@ mod tests {
         }
         println!("{counts:?}");
         assert!(counts.iter().all(|&count| count >= 5));
+    }
+
+    /// Extension link information is written with the other tables and without them, at its
+    /// shortest and at its longest, and refused alone (W1, W5, W7).
+    #[test]
+    fn no_extension_is_rare() {
+        let written = written();
+        let count = |wanted: &dyn Fn(&Reading, usize) -> bool| {
+            let is_wanted = |read: &Reading| {
+                read.extension.as_ref().is_some_and(|octets| wanted(read, octets.len()))
+            };
+            written.iter().filter(|(_, _, read)| is_wanted(read)).count()
+        };
+        let mut counts = vec![
+            count(&|read, _| read.link.is_some() && read.list.is_some()),
+            count(&|read, _| read.link.is_some() && read.list.is_none()),
+            count(&|read, _| read.link.is_none() && read.list.is_some()),
+            count(&|read, _| read.link.is_none() && read.list.is_none()),
+            count(&|_, octets| octets == 9),
+            count(&|_, octets| octets == 507),
+        ];
+        let refused_alone = |case: &Case| {
+            let without = Description { extension: None, ..case.description.clone() };
+            case.meant == Err(9) && write(&without, &case.text, 1600).is_ok()
+        };
+        counts.push(cases().iter().filter(|case| refused_alone(case)).count());
+        println!("{counts:?}");
+        assert!(counts.iter().all(|&count| count >= 10));
     }
 
     /// Each kind of chassis (L3) is announced, and says goodbye.

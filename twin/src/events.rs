@@ -1,5 +1,5 @@
 //! The events: the run cases, frames from group addresses, neighbours much like each other, random
-//! sequences of calls on the table, and spoiled tables.
+//! sequences of calls on the table, spoiled tables, and records with extension link information.
 //! The case file and the text that is expected for it are made here.
 //!
 //! A spoiled table is made in this way. Events have led to a table that is fit, and it is kept.
@@ -10,6 +10,7 @@
 mod bench;
 mod chassis;
 mod desk;
+mod extension;
 mod maker;
 mod random;
 mod spoils;
@@ -59,6 +60,7 @@ pub fn events() -> Vec<Event> {
     maker.frames_from_group_addresses();
     maker.chassis();
     maker.sequences();
+    maker.extensions();
     maker.events
 }
 

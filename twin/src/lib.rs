@@ -3,6 +3,7 @@
 
 pub mod announcements;
 pub mod events;
+pub mod extension;
 pub mod frames;
 pub mod id;
 mod numbers;
@@ -47,11 +48,11 @@ mod tests {
             ["frames", "announcements"].map(|kind| files(kind).expect("there is such a kind"));
         let (events, text_of_events) = events::tests::stored();
         let sizes = [
-            (frames.0.len(), 590_000),
-            (frames.1.len(), 800_000),
-            (announcements.0.len(), 690_000),
-            (announcements.1.len(), 800_000),
-            (events::case_file(events).len(), 899_999),
+            (frames.0.len(), 1_190_000),
+            (frames.1.len(), 1_990_000),
+            (announcements.0.len(), 1_190_000),
+            (announcements.1.len(), 1_990_000),
+            (events::case_file(events).len(), 990_000),
             (text_of_events.len(), 800_000),
         ];
         println!("octets of cases and of text, and the most there may be: {sizes:?}");

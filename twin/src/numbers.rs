@@ -19,11 +19,12 @@ pub const ORGANIZATION: u8 = 127;
 pub const ADDRESS: u8 = 4;
 pub const LOCAL: u8 = 7;
 
-/// The code of TTC, and the subtypes of its fields (T1, T2, T7, T8).
+/// The code of TTC, and the subtypes of its fields (T1, T2, T7, T8, T11).
 pub const TTC: [u8; 3] = [0xE0, 0x27, 0x1A];
 pub const DEVICE: u8 = 1;
 pub const LINK: u8 = 2;
 pub const LIST: u8 = 3;
+pub const EXTENSION: u8 = 4;
 
 /// IDs of device information (T3, T6).
 pub const CATEGORY: u8 = 1;

@@ -3,6 +3,7 @@
 
 use std::ops::RangeInclusive;
 
+use crate::extension::Extension;
 use crate::id::Id;
 use crate::numbers::*;
 
@@ -45,6 +46,8 @@ pub struct Reading {
     pub model_name: Vec<u8>,
     pub model_number: Vec<u8>,
     pub link: Option<Link>,
+    /// Extension link information: its octets behind the subtype, n to the last item (A6).
+    pub extension: Option<Vec<u8>>,
     pub list: Option<Vec<Address>>,
     pub system_name: Vec<u8>,
     pub system_description: Vec<u8>,
@@ -80,6 +83,12 @@ pub struct Counted {
 pub struct Naming {
     pub interface: Counted,
     pub number: Counted,
+}
+
+impl Naming {
+    fn of(interface: &[u8], number: &[u8]) -> Naming {
+        Naming { interface: counted(interface), number: counted(number) }
+    }
 }
 
 pub fn read_frame(frame: &[u8]) -> Result<Reading, Refusal> {
@@ -137,6 +146,10 @@ pub fn read_lldpdu(lldpdu: &[u8]) -> Result<Reading, Refusal> {
             Field::Link(link) => Some(link.clone()),
             _ => None,
         }),
+        extension: fields.iter().find_map(|field| match field {
+            Field::Extension(octets) => Some(octets.clone()),
+            _ => None,
+        }),
         list: fields.iter().find_map(|field| match field {
             Field::List(addresses) => Some(addresses.clone()),
             _ => None,
@@ -148,14 +161,17 @@ pub fn read_lldpdu(lldpdu: &[u8]) -> Result<Reading, Refusal> {
     })
 }
 
-/// The first well-formed link information that names the address (A4), whether the frame is HTIP or
-/// not.
+/// The first TLV that is well-formed link information of either kind and names the address (A4),
+/// whether the frame is HTIP or not.
 pub fn name_link(lldpdu: &[u8], address: Address) -> Result<Option<Naming>, Refusal> {
     let parts = Parts::of(lldpdu)?;
     let naming = parts.later.iter().find_map(|tlv| match Field::of(tlv) {
         Field::Link(link) if link.addresses.contains(&address) => {
-            Some(Naming { interface: counted(&link.interface), number: counted(&link.number) })
+            Some(Naming::of(&link.interface, &link.number))
         }
+        Field::Extension(octets) => Extension::of(&octets)
+            .filter(|extension| extension.names(address))
+            .map(|extension| Naming::of(&extension.interface, &extension.number)),
         _ => None,
     });
     Ok(naming)
@@ -246,11 +262,14 @@ enum Field {
     /// One of IDs 1 to 4 with its string.
     Device(u8, Vec<u8>),
     Link(Link),
+    /// Well-formed extension link information, as its octets behind the subtype.
+    Extension(Vec<u8>),
     List(Vec<Address>),
     /// A port description or a TTC field of subtype 1 to 3 that is not well formed (H1).
     Malformed,
-    /// Anything that neither has a value here nor spoils the verdict. System fields are among it:
-    /// they are read by rules of their own (S4, S5), and the verdict does not know them (H1).
+    /// Anything that neither has a value here nor spoils the verdict. Extension link information
+    /// that is not well formed is among it (H1), and system fields are: they are read by rules of
+    /// their own (S4, S5), and the verdict does not know them.
     Skipped,
 }
 
@@ -263,6 +282,7 @@ impl Field {
                     DEVICE => device_of(body),
                     LINK => link_of(body).map(Field::Link),
                     LIST => addresses_of(body).map(Field::List),
+                    EXTENSION => Some(extension_of(body)),
                     _ => Some(Field::Skipped),
                 }
             }
@@ -318,11 +338,19 @@ fn link_of(body: &[u8]) -> Option<Link> {
     })
 }
 
-/// A count from 1 to 4 and that many octets, parted from what follows (T7).
-fn short_string(octets: &[u8]) -> Option<(&[u8], &[u8])> {
+/// A count from 1 to 4 and that many octets, parted from what follows (T7, T11).
+pub(crate) fn short_string(octets: &[u8]) -> Option<(&[u8], &[u8])> {
     match octets.split_first()? {
         (&count @ 1..=4, behind) => behind.split_at_checked(usize::from(count)),
         _ => None,
+    }
+}
+
+/// It never spoils the verdict (T11, H1).
+fn extension_of(body: &[u8]) -> Field {
+    match Extension::of(body) {
+        Some(_) => Field::Extension(body.to_vec()),
+        None => Field::Skipped,
     }
 }
 

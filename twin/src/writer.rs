@@ -3,6 +3,7 @@
 
 use std::ops::RangeInclusive;
 
+use crate::extension::Extension;
 use crate::id::Id;
 use crate::numbers::*;
 use crate::reader::{Capabilities, Refusal};
@@ -34,6 +35,8 @@ pub struct Description<S = Part> {
     pub system_description: S,
     pub capabilities: Option<Capabilities>,
     pub management: Management<S>,
+    /// Extension link information: its octets behind the subtype (A6).
+    pub extension: Option<S>,
 }
 
 #[derive(Clone, Debug, PartialEq, Eq)]
@@ -126,6 +129,10 @@ impl<S> Description<S> {
             system_description: turned(&self.system_description)?,
             capabilities: self.capabilities,
             management: self.management.with(&mut turned)?,
+            extension: match &self.extension {
+                Some(octets) => Some(turned(octets)?),
+                None => None,
+            },
         })
     }
 }
@@ -162,8 +169,8 @@ fn lldpdu(description: &Description<&[u8]>) -> Option<Vec<u8>> {
     (whole.len() <= LONGEST_LLDPDU).then_some(whole)
 }
 
-/// With seconds 0 all but chassis and port ID is absent; a table without addresses is not, nor are
-/// capabilities with no flag set (W3).
+/// With seconds 0 all but chassis and port ID is absent; a table without addresses is not, of
+/// whichever kind, nor are capabilities with no flag set (W3).
 fn nothing_later(description: &Description<&[u8]>) -> Option<Vec<u8>> {
     let strings = [
         description.words,
@@ -178,6 +185,7 @@ fn nothing_later(description: &Description<&[u8]>) -> Option<Vec<u8>> {
         && description.capabilities.is_none()
         && description.management.count == 0
         && description.link.is_none()
+        && description.extension.is_none()
         && description.list.is_none();
     absent.then(Vec::new)
 }
@@ -193,6 +201,10 @@ fn later_tlvs(description: &Description<&[u8]>) -> Option<Vec<u8>> {
     };
     let link = match &description.link {
         Some(link) => link_tlv(link)?,
+        None => vec![],
+    };
+    let extension = match description.extension {
+        Some(octets) => extension_tlv(octets)?,
         None => vec![],
     };
     let list = match description.list {
@@ -212,6 +224,7 @@ fn later_tlvs(description: &Description<&[u8]>) -> Option<Vec<u8>> {
         if_any(description.model_name, |string| device_tlv(MODEL_NAME, string, 31))?,
         device_tlv(MODEL_NUMBER, description.model_number, 31)?,
         link,
+        extension,
         list,
     ];
     Some(tlvs.concat())
@@ -274,6 +287,12 @@ fn link_tlv(link: &LinkStrings<&[u8]>) -> Option<Vec<u8>> {
     let m = counted(link.number, 1, 4)?;
     let k = count_of(link.addresses)?;
     ttc_tlv(LINK, &[&n, link.interface, &m, link.number, &k, link.addresses])
+}
+
+/// Octets that are well formed (T11, W7). That L is at most 511 leaves room for 507 of them (W5).
+fn extension_tlv(octets: &[u8]) -> Option<Vec<u8>> {
+    Extension::of(octets)?;
+    ttc_tlv(EXTENSION, &[octets])
 }
 
 /// The octet that states the length of a string, if the length lies within its bounds.

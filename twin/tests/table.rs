@@ -582,6 +582,69 @@ fn who_sees_an_address() {
     assert_eq!(watch.sees(eleven, 0), Ok(last));
 }
 
+/// Extension link information with these octets behind port number 05: p, k, c and so on (T11).
+fn extension(interface: u8, rest: &[u8]) -> Vec<u8> {
+    let head = [0xE0, 0x27, 0x1A, 0x04, 0x01, interface, 0x01, 0x05];
+    [&[0xFE, (head.len() + rest.len()) as u8], &head[..], rest].concat()
+}
+
+#[test]
+fn who_sees_an_address_by_either_kind_of_link_information() {
+    let [eleven, twelve] = [0x11, 0x12].map(|last| [0x02, 0x00, 0x00, 0x00, 0x00, last]);
+    // Basic link information at 06, and extension link information at 47, see 02-00-00-00-00-11.
+    let basic = [
+        0xFE, 0x0F, 0xE0, 0x27, 0x1A, 0x02, 0x01, 0x06, 0x01, 0x05, 0x01, 0x02, 0x00, 0x00, 0x00,
+        0x00, 0x11,
+    ];
+    let entry = [&[0x06, 0x01, 0x01][..], &eleven, &[0x01, 0x32]].concat();
+    let named = extension(0x47, &[&entry[..], &[0x00, 0x01], &twelve].concat());
+    // With eight octets, as a pairing address, and with an octet behind its last item.
+    let eight = extension(0x48, &[&[0x08, 0x01, 0x00][..], &eleven, &[0, 0], &[0, 0]].concat());
+    let paired = extension(0x49, &[&[0x06, 0x00, 0x00, 0x00, 0x01][..], &eleven].concat());
+    let broken = extension(0x4A, &[&entry[..], &[0x00, 0x00, 0x00]].concat());
+    let sighting = |place, interface| {
+        let number = Counted { count: 1, value: 5 };
+        let naming = Naming { interface: Counted { count: 1, value: interface }, number };
+        Ok(Some(Sighting { place, naming }))
+    };
+
+    let mut watch = Watch::started();
+    let records: [&[&[u8]]; 8] = [
+        &[&eight, &paired],
+        &[&named],
+        &[&broken],
+        &[&basic, &named],
+        &[&named, &basic],
+        &[&paired, &broken, &named, &basic],
+        &[&eight, &broken, &paired, &basic, &named],
+        &[&paired],
+    ];
+    for (tlvs, number) in records.iter().zip(1..) {
+        let port = usize::from(number) - 1;
+        assert_eq!(watch.frame(port, &linked(number, tlvs)), Ok(Recorded));
+    }
+    let due = [
+        (0, sighting(1, 0x47)),
+        (1, sighting(1, 0x47)),
+        (2, sighting(3, 0x06)),
+        (3, sighting(3, 0x06)),
+        (4, sighting(4, 0x47)),
+        (5, sighting(5, 0x47)),
+        (6, sighting(6, 0x06)),
+        (7, Ok(None)),
+        (32, Ok(None)),
+    ];
+    for (from, due) in due {
+        assert_eq!(watch.sees(eleven, from), due);
+        assert_eq!(watch.sees(twelve, from), Ok(None));
+    }
+    // A refresh takes it away, and a lost link does.
+    assert_eq!(watch.frame(1, &linked(2, &[&broken])), Ok(Refreshed));
+    assert_eq!(watch.sees(eleven, 0), sighting(3, 0x06));
+    assert_eq!(watch.lost(3), Ok(()));
+    assert_eq!(watch.sees(eleven, 0), sighting(4, 0x47));
+}
+
 #[test]
 fn free_places_must_be_clear() {
     for place in [1, 31] {

@@ -48,6 +48,7 @@ fn everything_in_its_order() {
         &b"__eth0/1 TV0A1B2CLampX-9\x06\x00\x03"[..],
         b"\x02\x00\x00\x00\x00\x11\x02\x00\x00\x00\x00\x12_\xAA\xBB\xCC\xDD\xEE\xFF",
         b"sw1Lab\x05\x01\xC0\x00\x02\x01\x02\x00\x00",
+        b"\x01\x47\x01\x00\x02\x01\x01AB\x01i\x01\x00\x00",
     ]
     .concat();
     let description = Description {
@@ -69,6 +70,7 @@ fn everything_in_its_order() {
         system_description: part(49, 3),
         capabilities: Some(Capabilities { can: 20, enabled: 4 }),
         management: Management::of(vec![part(52, 9), part(40, 12)]),
+        extension: Some(part(61, 14)),
     };
     let expected = [
         &[0x02, 0x07, 0x04, 0xAA, 0xBB, 0xCC, 0xDD, 0xEE, 0xFF][..],
@@ -86,6 +88,8 @@ fn everything_in_its_order() {
         &[0xFE, 0x09, 0xE0, 0x27, 0x1A, 0x01, 0x04, 0x03, 0x58, 0x2D, 0x39],
         &[0xFE, 0x16, 0xE0, 0x27, 0x1A, 0x02, 0x01, 0x06, 0x02, 0x00, 0x03, 0x02],
         &[0x02, 0x00, 0x00, 0x00, 0x00, 0x11, 0x02, 0x00, 0x00, 0x00, 0x00, 0x12],
+        &[0xFE, 0x12, 0xE0, 0x27, 0x1A, 0x04, 0x01, 0x47, 0x01, 0x00, 0x02, 0x01, 0x01],
+        &[0x41, 0x42, 0x01, 0x69, 0x01, 0x00, 0x00],
         &[0xFE, 0x0B, 0xE0, 0x27, 0x1A, 0x03, 0x01, 0x02, 0x00, 0x00, 0x00, 0x00, 0x12],
         &[0x00, 0x00],
     ]
@@ -95,7 +99,7 @@ fn everything_in_its_order() {
     // Behind a header it reads back as the description, and it is HTIP (W6).
     let reading = read_frame(&[&HEADER[..], &expected].concat()).expect("the frame is valid");
     assert!(reading.htip);
-    assert_eq!(reading.outline.length, 151);
+    assert_eq!(reading.outline.length, 171);
     assert_eq!(reading.outline.chassis, id(4, &[0xAA, 0xBB, 0xCC, 0xDD, 0xEE, 0xFF]));
     assert_eq!(reading.outline.port, id(5, b"eth0"));
     assert_eq!(reading.outline.seconds, 0x1234);
@@ -111,6 +115,7 @@ fn everything_in_its_order() {
     assert_eq!(reading.system_description, b"Lab");
     assert_eq!(reading.capabilities, Some(Capabilities { can: 20, enabled: 4 }));
     assert_eq!(reading.management, [&text[52..61], &text[40..52]]);
+    assert_eq!(reading.extension, Some(text[61..75].to_vec()));
 }
 
 #[test]

@@ -3,6 +3,7 @@
 use Prim.Native.Nat.{ℕ, suc, _+_, _/_, _%_}
 use mathlib.Core.Path.{_≡_, refl, sym, ap, _∙_}
 use mathlib.Core.List.{List, [], _∷_, _++_, map, append-assoc}
+use mathlib.Core.Option.{Option, none}
 use native.Mathlib.Omega.{arith}
 use lib.ListN.{length}
 use Rattle.octets.specs.Header.{high, low}
@@ -11,7 +12,7 @@ use Rattle.output.proofs.OutputLaws.{puts-then, puts-same}
 use Rattle.ids.specs.Id.{Id, id}
 use Rattle.system.specs.System.{SystemInfo, unsaid}
 use Rattle.reading.specs.Meaning.{Said}
-use Rattle.tlvs.specs.Tlvs.{written, octetsOf, chassisTlv, portTlv, secondsTlv, endTlv, wordsTlv, nameTlv, systemDescriptionTlv, managementTlv, deviceTlv, unlessEmpty, ifFlagged, ifLinked, ifListed}
+use Rattle.tlvs.specs.Tlvs.{written, octetsOf, chassisTlv, portTlv, secondsTlv, endTlv, wordsTlv, nameTlv, systemDescriptionTlv, managementTlv, deviceTlv, unlessEmpty, ifFlagged, ifLinked, ifExtended, ifListed}
 use Rattle.tlvs.proofs.TlvLaws.{octets-append}
 use Rattle.announcement.specs.Encode.{systemTlvs, deviceTlvs, fieldTlvs, tlvsOf, encode}
 
@@ -55,20 +56,22 @@ module _ (d : Said) where
   devices-put o e f g h = puts-same o (puts-then _ _ _ e (puts-then _ _ _ f (puts-then _ _ _ g h))) devices-split
 
   fields-split :
-      wordsPut ++ (octetsOf (systemTlvs (d .system)) ++ (octetsOf (deviceTlvs d) ++ (octetsOf (ifLinked (d .link)) ++ octetsOf (ifListed (d .list)))))
+      wordsPut ++ (octetsOf (systemTlvs (d .system)) ++ (octetsOf (deviceTlvs d) ++ (octetsOf (ifLinked (d .link)) ++ (octetsOf (ifExtended (d .extension)) ++ octetsOf (ifListed (d .list))))))
       ≡ octetsOf (fieldTlvs d)
   unfolding fieldTlvs
   fields-split = simp octets-append
 
   -- the fields, likewise
-  pub fields-put : (o : Output) {p q r s t : Output}
+  pub fields-put : (o : Output) {p q r s t u : Output}
       → p ≡ puts wordsPut o
       → q ≡ puts (octetsOf (systemTlvs (d .system))) p
       → r ≡ puts (octetsOf (deviceTlvs d)) q
       → s ≡ puts (octetsOf (ifLinked (d .link))) r
-      → t ≡ puts (octetsOf (ifListed (d .list))) s
-      → t ≡ puts (octetsOf (fieldTlvs d)) o
-  fields-put o e f g h i = puts-same o (puts-then _ _ _ e (puts-then _ _ _ f (puts-then _ _ _ g (puts-then _ _ _ h i)))) fields-split
+      → t ≡ puts (octetsOf (ifExtended (d .extension))) s
+      → u ≡ puts (octetsOf (ifListed (d .list))) t
+      → u ≡ puts (octetsOf (fieldTlvs d)) o
+  fields-put o e f g h i j =
+      puts-same o (puts-then _ _ _ e (puts-then _ _ _ f (puts-then _ _ _ g (puts-then _ _ _ h (puts-then _ _ _ i j))))) fields-split
 
   encode-split :
       written (chassisTlv (d .chassis))
@@ -103,7 +106,26 @@ module _ (d : Said) where
       ∙ ap (λ (c : Id). written (chassisTlv c) ++ (written (portTlv (d .port)) ++ (written (secondsTlv (d .seconds)) ++ (octetsOf (fieldTlvs d) ++ written endTlv)))) e
       ∙ rw (six, p) refl
 
-  -- the octets of the order that W1 had before there were system fields, each TLV by a definition that is the same as then
+  -- the octets of the order that W1 had before there was extension link information, each TLV by its definition
+  abbrev pub octetsWithout : List ℕ
+  octetsWithout =
+      written (chassisTlv (d .chassis))
+      ++ (written (portTlv (d .port))
+      ++ (written (secondsTlv (d .seconds))
+      ++ (wordsPut
+      ++ (octetsOf (systemTlvs (d .system))
+      ++ (octetsOf (deviceTlvs d) ++ (octetsOf (ifLinked (d .link)) ++ (octetsOf (ifListed (d .list)) ++ written endTlv)))))))
+
+  -- they are written where there is none
+  pub without-extension : d .extension ≡ none → encode d ≡ octetsWithout
+  unfolding octetsOf
+  without-extension e =
+      let absent : octetsOf (ifExtended (d .extension)) ≡ [] = ap (λ (x : Option (List ℕ)). octetsOf (ifExtended x)) e in
+      sym encode-split
+      ∙ ap (λ (l : List ℕ). written (chassisTlv (d .chassis)) ++ (written (portTlv (d .port)) ++ (written (secondsTlv (d .seconds)) ++ (l ++ written endTlv)))) (sym fields-split)
+      ∙ rw absent (simp append-assoc)
+
+  -- and those of before there were system fields
   abbrev pub octetsBefore : List ℕ
   octetsBefore =
       written (chassisTlv (d .chassis))
@@ -116,11 +138,8 @@ module _ (d : Said) where
       ++ (octetsOf (unlessEmpty (deviceTlv 4) (d .number))
       ++ (octetsOf (ifLinked (d .link)) ++ (octetsOf (ifListed (d .list)) ++ written endTlv)))))))))
 
-  -- they are written where there are no system fields
-  pub without-system : d .system ≡ unsaid → encode d ≡ octetsBefore
+  pub without-both : d .system ≡ unsaid → d .extension ≡ none → encode d ≡ octetsBefore
   unfolding systemTlvs octetsOf
-  without-system e =
-      let none : octetsOf (systemTlvs (d .system)) ≡ [] = ap (λ (x : SystemInfo). octetsOf (systemTlvs x)) e in
-      sym encode-split
-      ∙ ap (λ (l : List ℕ). written (chassisTlv (d .chassis)) ++ (written (portTlv (d .port)) ++ (written (secondsTlv (d .seconds)) ++ (l ++ written endTlv)))) (sym fields-split)
-      ∙ rw (none, ← devices-split) (simp append-assoc)
+  without-both e x =
+      let absent : octetsOf (systemTlvs (d .system)) ≡ [] = ap (λ (y : SystemInfo). octetsOf (systemTlvs y)) e in
+      without-extension x ∙ rw (absent, ← devices-split) (simp append-assoc)

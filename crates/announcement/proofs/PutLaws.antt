@@ -1,4 +1,4 @@
--- Laws of link information, of an address list and of the system fields: their octets, and that an absent one has none.
+-- Laws of link information of either kind, of an address list and of the system fields: their octets, and that an absent one has none.
 -- They are said over the parts that the code has in hand.
 use Prim.Native.Nat.{ℕ, _+_, _<_, _≤_}
 use mathlib.Core.Path.{_≡_, refl, sym, ap, _∙_}
@@ -9,7 +9,7 @@ use native.Mathlib.Omega.{arith}
 use native.Mathlib.Numerals.{add-one}
 use lib.ListN.{length, take, getD}
 use lib.Seq.{take-suc, take-all}
-use Rattle.text.specs.Part.{nowhere, textOf, partsIn, textsOf}
+use Rattle.text.specs.Part.{nowhere, textOf, optionalText, partsIn, textsOf}
 use Rattle.text.specs.declared.Part.{Part}
 use Rattle.text.specs.declared.Parts.{Parts}
 use Rattle.text.proofs.PartsLaws.{texts-length, texts-at}
@@ -18,13 +18,13 @@ use Rattle.system.specs.declared.Capabilities.{Capabilities}
 use Rattle.system.specs.declared.Capabilities.the-variants as capabilities-are
 use Rattle.found.specs.Contents.{LinkInfo}
 use Rattle.reading.specs.Reading.{linkParts}
-use Rattle.reading.specs.Meaning.{linkMeant, listMeant}
+use Rattle.reading.specs.Meaning.{linkMeant}
 use Rattle.reading.proofs.MeaningLaws.{parts-absent, parts-there}
 use Rattle.reading.specs.declared.Link.{Link}
 use Rattle.reading.specs.declared.LinkParts.{LinkParts}
-use Rattle.reading.specs.declared.AddressList.{AddressList}
-use Rattle.reading.specs.declared.AddressList.the-variants as list-is
-use Rattle.tlvs.specs.Tlvs.{written, octetsOf, flagsTlv, managementTlv, ifFlagged, ifLinked, ifListed, linkInfo, countableLink, countableList}
+use Rattle.text.specs.declared.Optional.{Optional}
+use Rattle.text.specs.declared.Optional.the-variants as optional-is
+use Rattle.tlvs.specs.Tlvs.{written, octetsOf, flagsTlv, managementTlv, extensionTlv, ifFlagged, ifLinked, ifExtended, ifListed, linkInfo, countableLink, countableList}
 use Rattle.tlvs.proofs.TlvLaws.{one-octets, octets-append}
 
 module _ (s : List ℕ) (l : Link) {t : LinkParts} (e : t ≡ linkParts l) where
@@ -39,8 +39,17 @@ module _ (s : List ℕ) (l : Link) {t : LinkParts} (e : t ≡ linkParts l) where
     pub table-octets : octets (some (linkInfo x y z)) ≡ octets (linkMeant s l)
     table-octets = rw (i, p, a) (sym (ap octets (parts-there s l e h)))
 
--- the same of an address list
-pub absent-list : (s : List ℕ) {l : AddressList} → l ≡ list-is.Absent → [] ≡ octetsOf (ifListed (countableList (listMeant s l)))
+-- the same of extension link information
+module _ (s : List ℕ) {o : Optional} where
+  pub absent-extension : o ≡ optional-is.Absent → [] ≡ octetsOf (ifExtended (optionalText s o))
+  unfolding octetsOf
+  absent-extension e = rw e
+
+  pub extension-octets : {p : Part} {x : List ℕ} → o ≡ optional-is.Present p → x ≡ textOf s p → written (extensionTlv x) ≡ octetsOf (ifExtended (optionalText s o))
+  extension-octets {p} e q = rw (e, q) (sym (one-octets (extensionTlv (textOf s p))))
+
+-- of an address list
+pub absent-list : (s : List ℕ) {l : Optional} → l ≡ optional-is.Absent → [] ≡ octetsOf (ifListed (countableList (optionalText s l)))
 unfolding octetsOf
 absent-list s e = rw e
 

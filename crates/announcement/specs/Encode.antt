@@ -5,7 +5,7 @@ use mathlib.Core.List.{List, [], _∷_, _++_, map}
 use Rattle.walk.specs.Walk.{Tlv}
 use Rattle.system.specs.System.{SystemInfo}
 use Rattle.reading.specs.Meaning.{Said}
-use Rattle.tlvs.specs.Tlvs.{octetsOf, chassisTlv, portTlv, secondsTlv, endTlv, wordsTlv, nameTlv, systemDescriptionTlv, managementTlv, deviceTlv, unlessEmpty, ifFlagged, ifLinked, ifListed, countable, countableLink, countableList}
+use Rattle.tlvs.specs.Tlvs.{octetsOf, chassisTlv, portTlv, secondsTlv, endTlv, wordsTlv, nameTlv, systemDescriptionTlv, managementTlv, deviceTlv, unlessEmpty, ifFlagged, ifLinked, ifExtended, ifListed, countable, countableLink, countableList}
 
 -- the system fields, in order of type
 unfoldable pub systemTlvs : SystemInfo → List Tlv
@@ -24,7 +24,7 @@ deviceTlvs d =
 unfoldable pub fieldTlvs : Said → List Tlv
 fieldTlvs d =
     unlessEmpty wordsTlv (d .words)
-    ++ (systemTlvs (d .system) ++ (deviceTlvs d ++ (ifLinked (d .link) ++ ifListed (d .list))))
+    ++ (systemTlvs (d .system) ++ (deviceTlvs d ++ (ifLinked (d .link) ++ (ifExtended (d .extension) ++ ifListed (d .list)))))
 
 unfoldable pub tlvsOf : Said → List Tlv
 tlvsOf d = chassisTlv (d .chassis) ∷ portTlv (d .port) ∷ secondsTlv (d .seconds) ∷ (fieldTlvs d ++ (endTlv ∷ []))
@@ -45,6 +45,7 @@ countableOf d =
       model = countable (d .model);
       number = countable (d .number);
       link = countableLink (d .link);
+      extension = d .extension;
       list = countableList (d .list);
       system = d .system;
     }

@@ -2,23 +2,24 @@
 // Every function answers the place behind its octets; what does not fit, and what no octet can count, is left out.
 ghost use mathlib.Core.Path.{_≡_};
 ghost use Rattle.output.specs.Output.{outputAt, puts};
-ghost use Rattle.reading.specs.Meaning.{linkMeant, listMeant, saidBy};
+ghost use Rattle.reading.specs.Meaning.{linkMeant, saidBy};
 ghost use mathlib.Core.List.{map};
-ghost use Rattle.text.specs.Part.{textsOf};
+ghost use Rattle.text.specs.Part.{textsOf, optionalText};
 ghost use Rattle.system.specs.System.{flagsMeant, systemMeant};
-ghost use Rattle.tlvs.specs.Tlvs.{octetsOf, managementTlv, ifFlagged, ifLinked, ifListed, countableLink, countableList};
+ghost use Rattle.tlvs.specs.Tlvs.{octetsOf, managementTlv, ifFlagged, ifLinked, ifExtended, ifListed, countableLink, countableList};
 ghost use Rattle.announcement.specs.Encode.{systemTlvs, deviceTlvs, fieldTlvs, encode, countableOf};
-use reading::AddressList;
 use reading::Description;
 use reading::Link;
 use reading::link_parts;
 use system::Capabilities;
 use system::System;
+use text::Optional;
 use text::Parts;
 use text::nth_part;
 use text::part_count;
 use text::text_of;
 use tlvs::put_device;
+use tlvs::put_extended;
 use tlvs::put_flags;
 use tlvs::put_head;
 use tlvs::put_id;
@@ -90,12 +91,21 @@ fn put_link(out: &mut [u8], at: usize, text: &[u8], l: Link) -> usize
     at
 }
 
-fn put_list(out: &mut [u8], at: usize, text: &[u8], l: AddressList) -> usize
-    ensures { λ r. ⌜ outputAt (now (out .exit)) r ≡ puts (octetsOf (ifListed (countableList (listMeant (now (text .entry)) l)))) (outputAt (now (out .entry)) at) ⌝ }
+fn put_extension(out: &mut [u8], at: usize, text: &[u8], e: Optional) -> usize
+    ensures { λ r. ⌜ outputAt (now (out .exit)) r ≡ puts (octetsOf (ifExtended (optionalText (now (text .entry)) e))) (outputAt (now (out .entry)) at) ⌝ }
+{
+    match e {
+        Optional::Absent => at,
+        Optional::Present(p) => put_extended(out, at, text_of(text, p)),
+    }
+}
+
+fn put_list(out: &mut [u8], at: usize, text: &[u8], l: Optional) -> usize
+    ensures { λ r. ⌜ outputAt (now (out .exit)) r ≡ puts (octetsOf (ifListed (countableList (optionalText (now (text .entry)) l)))) (outputAt (now (out .entry)) at) ⌝ }
 {
     match l {
-        AddressList::Absent => at,
-        AddressList::Listed(a) => put_listed(out, at, text_of(text, a)),
+        Optional::Absent => at,
+        Optional::Present(a) => put_listed(out, at, text_of(text, a)),
     }
 }
 
@@ -115,12 +125,14 @@ fn put_fields(out: &mut [u8], at: usize, text: &[u8], d: Description) -> usize
 {
     let system = d.system;
     let link = d.link;
+    let extension = d.extension;
     let list = d.list;
     let a = put_string(out, at, PORT_DESCRIPTION, text, d.words);
     let b = put_system(out, a, text, system);
     let c = put_devices(out, b, text, d);
     let e = put_link(out, c, text, link);
-    put_list(out, e, text, list)
+    let f = put_extension(out, e, text, extension);
+    put_list(out, f, text, list)
 }
 
 pub fn put_lldpdu(out: &mut [u8], text: &[u8], d: Description) -> usize

@@ -13,11 +13,11 @@ use crate::print::say_two;
 use octets::octet;
 use octets::pair;
 use octets::value_of;
-use reader::AddressList;
 use reader::Capabilities;
 use reader::Description;
 use reader::IdPart;
 use reader::Link;
+use reader::Optional;
 use reader::Part;
 use reader::Parts;
 use reader::System;
@@ -27,7 +27,7 @@ use writer::Written;
 use writer::write;
 
 // The octets of a case before its text.
-const HEAD: u32 = 295;
+const HEAD: u32 = 312;
 
 // The most octets of an output.
 const ROOM: usize = 1600;
@@ -80,11 +80,14 @@ fn link_at(octets: &[u8]) -> Link {
     }
 }
 
-fn list_at(octets: &[u8]) -> AddressList {
-    if octet(octets, 165) == 0 {
-        return AddressList::Absent;
+// A part that may be absent, behind an octet that says whether it is there.
+fn optional_at(octets: &[u8], at: usize) -> Optional
+    requires { ⌜ at < 800 ⌝ }
+{
+    if octet(octets, at) == 0 {
+        return Optional::Absent;
     }
-    AddressList::Listed(part_at(octets, 166))
+    Optional::Present(part_at(octets, at + 1))
 }
 
 fn capabilities_at(octets: &[u8]) -> Capabilities {
@@ -130,7 +133,8 @@ fn description_at(octets: &[u8]) -> Description {
         model: part_at(octets, 84),
         number: part_at(octets, 100),
         link: link_at(octets),
-        list: list_at(octets),
+        extension: optional_at(octets, 291),
+        list: optional_at(octets, 165),
         system: system_at(octets),
     }
 }
@@ -207,15 +211,15 @@ fn answer(case: usize, d: Description, text: &[u8], room: usize) {
 
 // The case at the front of the octets; how many of them it has.
 pub(crate) fn run_case(case: usize, octets: &[u8]) -> u32 {
-    let room = pair(octet(octets, 291), octet(octets, 292)) as usize;
-    let length = pair(octet(octets, 293), octet(octets, 294));
+    let room = pair(octet(octets, 308), octet(octets, 309)) as usize;
+    let length = pair(octet(octets, 310), octet(octets, 311));
     answer(
         case,
         description_at(octets),
         text_of(
             octets,
             Part {
-                start: 295,
+                start: 312,
                 len: length as usize,
             },
         ),

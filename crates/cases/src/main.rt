@@ -8,7 +8,7 @@ use reader::Part;
 use reader::text_of;
 
 // No file has more octets, and none has more cases.
-const OCTETS: usize = 700000;
+const OCTETS: usize = 1200000;
 
 const CASES: usize = 10000;
 

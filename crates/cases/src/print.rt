@@ -2,20 +2,25 @@
 // An answer is made into numbers; a form, which is named by its number, says what stands between them.
 use forms::put_form;
 use libc::STDOUT_FILENO;
-use reader::AddressList;
 use reader::Capabilities;
 use reader::Description;
 use reader::Extent;
 use reader::IdPart;
 use reader::Link;
 use reader::Naming;
+use reader::Optional;
 use reader::Outline;
 use reader::Part;
 use reader::Parts;
 use reader::Reading;
 use reader::System;
+use reader::address_at;
+use reader::counts_of;
+use reader::item_at;
 use reader::nth_part;
+use reader::pairing_at;
 use reader::part_count;
+use reader::port_item_at;
 use reader::text_of;
 
 // The numbers of the forms below.
@@ -43,24 +48,26 @@ const STRINGS: usize = 11;
 
 const LINK: usize = 12;
 
-const NO_LINK: usize = 13;
+const ABSENT: usize = 13;
 
-const LIST: usize = 14;
+const PRESENT: usize = 14;
 
-const NO_LIST: usize = 15;
+const NO_CAPABILITIES: usize = 15;
 
-const NO_CAPABILITIES: usize = 16;
-
-const CAPABILITIES: usize = 17;
+const CAPABILITIES: usize = 16;
 
 // The form of no management address; those of one to four stand behind it.
-const NO_MANAGEMENT: usize = 18;
+const NO_MANAGEMENT: usize = 17;
 
-const NAMING_REFUSED: usize = 23;
+const NAMING_REFUSED: usize = 22;
 
-const NAMING_NONE: usize = 24;
+const NAMING_NONE: usize = 23;
 
-const NAMING: usize = 25;
+const NAMING: usize = 24;
+
+const COUNTS: usize = 25;
+
+const ASKED: usize = 26;
 
 // More than the longest words, which spell out a buffer of 1,600 octets.
 const LINE: usize = 4096;
@@ -71,7 +78,7 @@ pub(crate) fn say(form: usize, values: [usize; 10], text: &[u8]) {
     let end = put_form(
         &mut line,
         0,
-        b"# refused #\n|# wrote #\n|# output % rest #\n|# again refused #\n|# again # %\n|# outline refused #\n|# outline valid # # % # % #\n|# reading refused #\n|# reading valid # no # % # % #|# reading valid # yes # % # % #| % % % % %| %/%/%| absent| %| absent| % % absent| % % #/#| none\n| %\n| %/%\n| %/%/%\n| %/%/%/%\n|# naming refused #\n|# naming none\n|# naming # # # #\n",
+        b"# refused #\n|# wrote #\n|# output % rest #\n|# again refused #\n|# again # %\n|# outline refused #\n|# outline valid # # % # % #\n|# reading refused #\n|# reading valid # no # % # % #|# reading valid # yes # % # % #| % % % % %| %/%/%| absent| %| % % absent| % % #/#| none\n| %\n| %/%\n| %/%/%\n| %/%/%/%\n|# naming refused #\n|# naming none\n|# naming # # # #\n|# extension %/% # # # # #| % % % %\n",
         form,
         &values,
         text,
@@ -132,7 +139,7 @@ pub(crate) fn say_outline(case: usize, lldpdu: &[u8], o: Outline) {
 
 fn say_link(lldpdu: &[u8], link: Link) {
     match link {
-        Link::Absent => say_two(NO_LINK, 0, 0, lldpdu),
+        Link::Absent => say_two(ABSENT, 0, 0, lldpdu),
         Link::Table {
             interface,
             port,
@@ -156,10 +163,10 @@ fn say_link(lldpdu: &[u8], link: Link) {
     }
 }
 
-fn say_list(lldpdu: &[u8], list: AddressList) {
-    match list {
-        AddressList::Absent => say_two(NO_LIST, 0, 0, lldpdu),
-        AddressList::Listed(addresses) => say_two(LIST, addresses.start, addresses.len, lldpdu),
+fn say_optional(lldpdu: &[u8], o: Optional) {
+    match o {
+        Optional::Absent => say_two(ABSENT, 0, 0, lldpdu),
+        Optional::Present(p) => say_two(PRESENT, p.start, p.len, lldpdu),
     }
 }
 
@@ -233,6 +240,7 @@ fn say_management(lldpdu: &[u8], l: Parts) {
 
 fn say_fields(lldpdu: &[u8], d: Description) {
     let link = d.link;
+    let extension = d.extension;
     let list = d.list;
     let system = d.system;
     let management = system.management;
@@ -253,7 +261,8 @@ fn say_fields(lldpdu: &[u8], d: Description) {
         lldpdu,
     );
     say_link(lldpdu, link);
-    say_list(lldpdu, list);
+    say_optional(lldpdu, extension);
+    say_optional(lldpdu, list);
     say_system(lldpdu, system);
     say_management(lldpdu, management);
 }
@@ -268,6 +277,56 @@ pub(crate) fn say_reading(case: usize, lldpdu: &[u8], r: Reading) {
             say_identity(title, case, length, lldpdu, d.chassis, d.port, d.seconds);
             say_fields(lldpdu, d);
         }
+    }
+}
+
+// What extension link information answers: its counts, then its address i with the item j, its pairing address i, its port's item j.
+fn say_asked(case: usize, content: &[u8], i: usize, j: usize) {
+    let c = counts_of(content);
+    say(
+        COUNTS,
+        [
+            case,
+            c.interface.start,
+            c.interface.len,
+            c.port.start,
+            c.port.len,
+            c.width as usize,
+            c.addresses as usize,
+            c.items as usize,
+            c.pairings as usize,
+            c.portitems as usize,
+        ],
+        content,
+    );
+    let address = address_at(content, i);
+    let item = item_at(content, i, j);
+    let pairing = pairing_at(content, i);
+    let own = port_item_at(content, j);
+    say(
+        ASKED,
+        [
+            address.start,
+            address.len,
+            item.start,
+            item.len,
+            pairing.start,
+            pairing.len,
+            own.start,
+            own.len,
+            0,
+            0,
+        ],
+        content,
+    );
+}
+
+pub(crate) fn say_extension(case: usize, lldpdu: &[u8], r: Reading, i: usize, j: usize) {
+    let d = r.description;
+    let extension = d.extension;
+    match extension {
+        Optional::Absent => {}
+        Optional::Present(p) => say_asked(case, text_of(lldpdu, p), i, j),
     }
 }
 

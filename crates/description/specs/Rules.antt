@@ -11,6 +11,7 @@ use Rattle.strings.specs.Text.{textOk}
 use Rattle.ids.specs.Id.{chassisOk, portOk}
 use Rattle.found.specs.Contents.{LinkInfo}
 use Rattle.system.specs.System.{systemRules, absentRules}
+use Rattle.extension.specs.Layout.{extensionOk}
 use Rattle.reading.specs.Meaning.{Said}
 
 -- T10
@@ -33,6 +34,14 @@ abbrev pub linkSound : Option LinkInfo → Bool
 linkSound none = true
 linkSound (some l) = tableSound (length (l .interface)) (length (l .port)) (length (l .addresses))
 
+-- T11 and W5, by the octets behind the subtype; L is at most 511
+abbrev pub contentSound : List ℕ → Bool
+contentSound content = both (leb (4 + length content) 511) (extensionOk content)
+
+abbrev pub extensionSound : Option (List ℕ) → Bool
+extensionSound none = true
+extensionSound (some content) = contentSound content
+
 -- T8 and W5, by the number of octets of the addresses; L is at most 511
 abbrev pub listedSound : ℕ → Bool
 listedSound a = both (eqb (a % 6) 0) (leb (5 + a) 511)
@@ -45,9 +54,9 @@ abbrev pub noLink : Option LinkInfo → Bool
 noLink none = true
 noLink (some l) = false
 
-abbrev pub noList : Option (List ℕ) → Bool
-noList none = true
-noList (some addresses) = false
+abbrev pub noOctets : Option (List ℕ) → Bool
+noOctets none = true
+noOctets (some octets) = false
 
 -- W3: with seconds 0 all but chassis and port ID is absent
 abbrev pub goodbyeRules : Said → List Bool
@@ -58,7 +67,8 @@ goodbyeRules d =
     ∷ eqb (length (d .model)) 0
     ∷ eqb (length (d .number)) 0
     ∷ noLink (d .link)
-    ∷ noList (d .list)
+    ∷ noOctets (d .extension)
+    ∷ noOctets (d .list)
     ∷ all (absentRules (d .system))
     ∷ []
 
@@ -77,6 +87,7 @@ rules d =
     ∷ wordsSound (d .words)
     ∷ all (stringRules d)
     ∷ linkSound (d .link)
+    ∷ extensionSound (d .extension)
     ∷ listSound (d .list)
     ∷ all (systemRules (d .system))
     ∷ timelyOf d

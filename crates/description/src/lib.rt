@@ -1,22 +1,23 @@
-// Whether what a description says keeps the rules (W2, W3, W5, W7), by the number of octets of each part.
+// Whether what a description says keeps the rules (W2, W3, W5, W7), by the number of octets of each part, and of some by the octets.
 // One function to a rule; any description and any text get an answer, and where the parts lie is not asked here.
 ghost use mathlib.Core.Path.{_≡_};
 ghost use mathlib.Core.List.{[]};
 ghost use lib.ListN.{length};
 ghost use Rattle.tally.specs.Tests.{all};
-ghost use Rattle.text.specs.Part.{textOf};
-ghost use Rattle.reading.specs.Meaning.{linkMeant, listMeant, saidBy};
-ghost use Rattle.description.specs.Rules.{wordsSound, stringRules, tableSound, linkSound, listedSound, listSound, noLink, noList, goodbyeRules, liveRules, timelyOf, soundOf};
+ghost use Rattle.text.specs.Part.{textOf, optionalText};
+ghost use Rattle.reading.specs.Meaning.{linkMeant, saidBy};
+ghost use Rattle.description.specs.Rules.{wordsSound, stringRules, tableSound, linkSound, contentSound, extensionSound, listedSound, listSound, noLink, noOctets, goodbyeRules, liveRules, timelyOf, soundOf};
+use extension::extension_fits;
 use fields::Field;
 use fields::field_of;
 use ids::chassis_fits;
 use ids::port_fits;
-use reading::AddressList;
 use reading::Description;
 use reading::Link;
 use reading::link_parts;
 use system::system_absent;
 use system::system_fits;
+use text::Optional;
 use text::Part;
 use text::text_of;
 
@@ -89,6 +90,25 @@ fn link_sound(text: &[u8], l: Link) -> bool
     true
 }
 
+// The octets of extension link information behind the subtype (T11, W5).
+fn content_sound(content: &[u8]) -> bool
+    ensures { λ r. ⌜ r ≡ contentSound (now (content .entry)) ⌝ }
+{
+    if content.len() > 507 {
+        return false;
+    }
+    extension_fits(content)
+}
+
+fn extension_sound(text: &[u8], e: Optional) -> bool
+    ensures { λ r. ⌜ r ≡ extensionSound (optionalText (now (text .entry)) e) ⌝ }
+{
+    match e {
+        Optional::Absent => true,
+        Optional::Present(p) => content_sound(text_of(text, p)),
+    }
+}
+
 // An address list with n octets of addresses (T8, W5).
 fn listed_sound(n: usize) -> bool
     ensures { λ r. ⌜ r ≡ listedSound n ⌝ }
@@ -99,12 +119,12 @@ fn listed_sound(n: usize) -> bool
     n <= 506
 }
 
-fn list_sound(text: &[u8], l: AddressList) -> bool
-    ensures { λ r. ⌜ r ≡ listSound (listMeant (now (text .entry)) l) ⌝ }
+fn list_sound(text: &[u8], l: Optional) -> bool
+    ensures { λ r. ⌜ r ≡ listSound (optionalText (now (text .entry)) l) ⌝ }
 {
     match l {
-        AddressList::Absent => true,
-        AddressList::Listed(a) => listed_sound(count_of(text, a)),
+        Optional::Absent => true,
+        Optional::Present(a) => listed_sound(count_of(text, a)),
     }
 }
 
@@ -115,12 +135,12 @@ fn no_link(l: Link) -> bool
     !link_parts(l).there
 }
 
-fn no_list(l: AddressList) -> bool
-    ensures { λ r. ⌜ r ≡ noList (listMeant [] l) ⌝ }
+fn no_octets(o: Optional) -> bool
+    ensures { λ r. ⌜ r ≡ noOctets (optionalText [] o) ⌝ }
 {
-    match l {
-        AddressList::Absent => true,
-        AddressList::Listed(_) => false,
+    match o {
+        Optional::Absent => true,
+        Optional::Present(_) => false,
     }
 }
 
@@ -144,11 +164,15 @@ fn goodbye_sound(text: &[u8], d: Description) -> bool
         return false;
     }
     let link = d.link;
+    let extension = d.extension;
     let list = d.list;
     if !no_link(link) {
         return false;
     }
-    if !no_list(list) {
+    if !no_octets(extension) {
+        return false;
+    }
+    if !no_octets(list) {
         return false;
     }
     let system = d.system;
@@ -182,6 +206,7 @@ pub fn is_sound(text: &[u8], d: Description) -> bool
     let chassis = d.chassis;
     let port = d.port;
     let link = d.link;
+    let extension = d.extension;
     let list = d.list;
     if !chassis_fits(chassis.subtype, text_of(text, chassis.octets)) {
         return false;
@@ -196,6 +221,9 @@ pub fn is_sound(text: &[u8], d: Description) -> bool
         return false;
     }
     if !link_sound(text, link) {
+        return false;
+    }
+    if !extension_sound(text, extension) {
         return false;
     }
     if !list_sound(text, list) {

@@ -1,5 +1,5 @@
 -- Laws of what a TLV says: a topic is one of those that there are, its content lies inside the information string,
--- and only a well formed link information speaks of links.
+-- and only a well formed link information speaks of links, a well formed extension link information of its own.
 use Prim.{Unit, tt}
 use Prim.Native.Nat.{ℕ, _+_, _*_, _<_, _≤_}
 use mathlib.Core.Path.{_≡_, refl}
@@ -7,7 +7,7 @@ use mathlib.Core.List.{List, [], _∷_}
 use mathlib.Core.Bool.{Bool, true, false}
 use native.Mathlib.Omega.{arith}
 use borrow.Author.Tests.{eqb-true, leb-true}
-use lib.ListN.{length, getD}
+use lib.ListN.{length, drop, getD, length-drop}
 use lib.Dec.{leb, ltb, eqb}
 use Rattle.tally.specs.Tests.{pick, both, all}
 use Rattle.tally.proofs.TestsLaws.{both-true}
@@ -15,8 +15,10 @@ use Rattle.strings.specs.Text.{textOk}
 use Rattle.strings.specs.Wants.{wantedOf}
 use Rattle.fields.specs.Device.{onWanted, deviceOf}
 use Rattle.links.specs.Link.{linkOk, listOk}
-use Rattle.fields.specs.Field.{link, addressList, systemName, systemDescription, capabilities, management, descriptionOf, managementOk, managementOf, linkOf, listOf, isTtc, ttcOf, fieldOf}
+use Rattle.fields.specs.Field.{link, extension, systemName, systemDescription, capabilities, management, descriptionOf, managementOk, managementOf, linkOf, listOf, extensionOf, isTtc, ttcOf, fieldOf}
 use Rattle.links.proofs.LinkLaws.{link-has}
+use Rattle.extension.specs.Layout.{extensionOk}
+use Rattle.extension.proofs.LayoutLaws.{fits-some}
 use Rattle.strings.specs.declared.Wanted.{Wanted}
 use Rattle.strings.specs.declared.Wanted.the-variants.{Text, Free, Vendor}
 use Rattle.fields.specs.declared.Field.{Field}
@@ -27,6 +29,7 @@ pub record Sound (most : ℕ) (b : List ℕ) (topic skip : ℕ) : Type 0 where
   pub known : topic ≤ most
   pub inside : skip ≤ length b
   pub linked : topic ≡ link → (linkOk b ≡ true) × (skip ≡ 4)
+  pub extended : topic ≡ extension → (extensionOk (drop 4 b) ≡ true) × (skip ≡ 4)
 
 abbrev pub FitsTo : ℕ → List ℕ → Field → Type 0
 FitsTo most b Skipped = Unit {0}
@@ -40,11 +43,11 @@ fits-pick : (most : ℕ) (b : List ℕ) (t : Bool) (x y : Field) → (t ≡ true
 fits-pick most b true x y p q = p refl
 fits-pick most b false x y p q = q
 
--- what is said up to address lists is known
-fits-on : (b : List ℕ) (x : Field) → FitsTo addressList b x → Fits b x
+-- what a port description or a TTC field says is known
+fits-on : (b : List ℕ) (x : Field) → FitsTo extension b x → Fits b x
 fits-on b Skipped h = tt
 fits-on b Malformed h = tt
-fits-on b (Says topic skip) h = record { known = omega (arith, h .known); inside = h .inside; linked = h .linked }
+fits-on b (Says topic skip) h = record { known = omega (arith, h .known); inside = h .inside; linked = h .linked; extended = h .extended }
 
 -- only IDs 1 to 4 want a text
 wanted-small : (id most : ℕ) → wantedOf id ≡ Text most → id < link
@@ -60,62 +63,78 @@ wanted-small id most e = go (eqb id 1) refl (eqb id 2) refl (both (leb 3 id) (le
     go false p false q false r false w = let z : _≡_ {A = ℕ} 0 1 = cc in absurd (omega arith)
 
 module _ (b : List ℕ) where
-  by-wanted : (w : Wanted) (id s : ℕ) → wantedOf id ≡ w → FitsTo addressList b (onWanted w (length b) id s)
+  by-wanted : (w : Wanted) (id s : ℕ) → wantedOf id ≡ w → FitsTo extension b (onWanted w (length b) id s)
   by-wanted (Text most) id s e =
       let small = wanted-small id most e in
-      fits-pick addressList b (all (eqb (length b) (6 + s) ∷ leb 1 s ∷ leb s most ∷ [])) (Says id 6) Malformed
+      fits-pick extension b (all (eqb (length b) (6 + s) ∷ leb 1 s ∷ leb s most ∷ [])) (Says id 6) Malformed
       (λ t.
       record {
         known = omega arith;
         inside = omega (arith, eqb-true (length b) (6 + s) (both-true (eqb (length b) (6 + s)) (all (leb 1 s ∷ leb s most ∷ [])) t .0));
         linked = λ q. absurd (omega arith);
+        extended = λ q. absurd (omega arith);
       })
       tt
-  by-wanted Free id s e = fits-pick addressList b (eqb (length b) (6 + s)) Skipped Malformed (λ t. tt) tt
+  by-wanted Free id s e = fits-pick extension b (eqb (length b) (6 + s)) Skipped Malformed (λ t. tt) tt
   by-wanted Vendor id s e = tt
 
-  device-fits : FitsTo addressList b (deviceOf b)
+  device-fits : FitsTo extension b (deviceOf b)
   unfolding deviceOf
   device-fits =
-      fits-pick addressList b (ltb (length b) 5) Malformed (onWanted (wantedOf (getD b 4 0)) (length b) (getD b 4 0) (getD b 5 0))
+      fits-pick extension b (ltb (length b) 5) Malformed (onWanted (wantedOf (getD b 4 0)) (length b) (getD b 4 0) (getD b 5 0))
       (λ t. tt)
       (by-wanted (wantedOf (getD b 4 0)) (getD b 4 0) (getD b 5 0) refl)
 
-  pub description-fits : FitsTo addressList b (descriptionOf b)
+  pub description-fits : FitsTo extension b (descriptionOf b)
   unfolding descriptionOf
   description-fits =
-      fits-pick addressList b (both (leb (length b) 255) (textOk b)) (Says 0 0) Malformed
-      (λ t. record { known = omega arith; inside = omega arith; linked = λ q. absurd (omega arith) })
+      fits-pick extension b (both (leb (length b) 255) (textOk b)) (Says 0 0) Malformed
+      (λ t. record { known = omega arith; inside = omega arith; linked = λ q. absurd (omega arith); extended = λ q. absurd (omega arith) })
       tt
 
-  -- the whole information string is the content of a topic behind those of links
-  whole-fits : (topic : ℕ) → link < topic → topic ≤ management → Fits b (Says topic 0)
-  whole-fits topic h k = record { known = k; inside = omega arith; linked = λ q. absurd (omega arith) }
+  -- the whole information string is the content of a topic behind those of TTC fields
+  whole-fits : (topic : ℕ) → extension < topic → topic ≤ management → Fits b (Says topic 0)
+  whole-fits topic h k = record { known = k; inside = omega arith; linked = λ q. absurd (omega arith); extended = λ q. absurd (omega arith) }
 
   management-fits : Fits b (managementOf b)
   unfolding managementOf
   management-fits = fits-pick management b (managementOk (length b)) (Says management 0) Skipped (λ t. whole-fits management (omega arith) (omega arith)) tt
 
-  link-fits : FitsTo addressList b (linkOf b)
+  link-fits : FitsTo extension b (linkOf b)
   unfolding linkOf
   link-fits =
-      fits-pick addressList b (linkOk b) (Says 5 4) Malformed
-      (λ t. record { known = omega arith; inside = omega (arith, link-has b t .ends); linked = λ q. (t, refl) })
+      fits-pick extension b (linkOk b) (Says 5 4) Malformed
+      (λ t. record { known = omega arith; inside = omega (arith, link-has b t .ends); linked = λ q. (t, refl); extended = λ q. absurd (omega arith) })
       tt
 
-  list-fits : FitsTo addressList b (listOf b)
+  list-fits : FitsTo extension b (listOf b)
   unfolding listOf listOk
   list-fits =
-      fits-pick addressList b (eqb (length b) (5 + 6 * getD b 4 0)) (Says 6 5) Malformed
-      (λ t. record { known = omega arith; inside = omega (arith, eqb-true (length b) (5 + 6 * getD b 4 0) t); linked = λ q. absurd (omega arith) })
+      fits-pick extension b (eqb (length b) (5 + 6 * getD b 4 0)) (Says 6 5) Malformed
+      (λ t. record { known = omega arith; inside = omega (arith, eqb-true (length b) (5 + 6 * getD b 4 0) t); linked = λ q. absurd (omega arith); extended = λ q. absurd (omega arith) })
       tt
 
-  pub ttc-fits : FitsTo addressList b (ttcOf b)
+  -- a content that is well formed has octets
+  extension-fits : FitsTo extension b (extensionOf b)
+  unfolding extensionOf
+  extension-fits =
+      fits-pick extension b (extensionOk (drop 4 b)) (Says extension 4) Skipped
+      (λ t.
+      record {
+        known = omega arith;
+        inside = omega (arith, fits-some (drop 4 b) t, length-drop 4 b);
+        linked = λ q. absurd (omega arith);
+        extended = λ q. (t, refl);
+      })
+      tt
+
+  pub ttc-fits : FitsTo extension b (ttcOf b)
   unfolding ttcOf
   ttc-fits =
-      fits-pick addressList b (eqb (getD b 3 0) 1) (deviceOf b) _ (λ t. device-fits)
-      (fits-pick addressList b (eqb (getD b 3 0) 2) (linkOf b) _ (λ t. link-fits)
-      (fits-pick addressList b (eqb (getD b 3 0) 3) (listOf b) Skipped (λ t. list-fits) tt))
+      fits-pick extension b (eqb (getD b 3 0) 1) (deviceOf b) _ (λ t. device-fits)
+      (fits-pick extension b (eqb (getD b 3 0) 2) (linkOf b) _ (λ t. link-fits)
+      (fits-pick extension b (eqb (getD b 3 0) 3) (listOf b) _ (λ t. list-fits)
+      (fits-pick extension b (eqb (getD b 3 0) 4) (extensionOf b) Skipped (λ t. extension-fits) tt)))
 
   pub field-fits : (kind : ℕ) → Fits b (fieldOf kind b)
   unfolding fieldOf

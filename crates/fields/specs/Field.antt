@@ -3,12 +3,13 @@
 use Prim.Native.Nat.{ℕ}
 use mathlib.Core.List.{List, [], _∷_}
 use mathlib.Core.Bool.{Bool}
-use lib.ListN.{length, getD}
+use lib.ListN.{length, drop, getD}
 use lib.Dec.{leb, eqb}
 use Rattle.tally.specs.Tests.{pick, both, all}
 use Rattle.strings.specs.Text.{textOk}
 use Rattle.fields.specs.Device.{deviceOf}
 use Rattle.links.specs.Link.{linkOk, listOk}
+use Rattle.extension.specs.Layout.{extensionOk}
 use Rattle.fields.specs.declared.Field.{Field}
 use Rattle.fields.specs.declared.Field.the-variants.{Skipped, Malformed, Says}
 
@@ -34,18 +35,21 @@ link = 5
 abbrev pub addressList : ℕ
 addressList = 6
 
+abbrev pub extension : ℕ
+extension = 7
+
 abbrev pub systemName : ℕ
-systemName = 7
+systemName = 8
 
 abbrev pub systemDescription : ℕ
-systemDescription = 8
+systemDescription = 9
 
 abbrev pub capabilities : ℕ
-capabilities = 9
+capabilities = 10
 
 -- how many topics there are of which one content is read; their numbers are below this
 abbrev pub topics : ℕ
-topics = 10
+topics = 11
 
 -- the one topic of which several contents are read (S5)
 abbrev pub management : ℕ
@@ -71,6 +75,10 @@ linkOf b = pick (linkOk b) (Says link 4) Malformed
 unfoldable pub listOf : List ℕ → Field
 listOf b = pick (listOk b) (Says addressList 5) Malformed
 
+-- T11; the content begins with n, and one that is not well formed is passed over (H1)
+unfoldable pub extensionOf : List ℕ → Field
+extensionOf b = pick (extensionOk (drop 4 b)) (Says extension 4) Skipped
+
 -- T1: E0-27-1A in front
 unfoldable pub isTtc : List ℕ → Bool
 isTtc b = all (eqb (getD b 0 0) 0xE0 ∷ eqb (getD b 1 0) 0x27 ∷ eqb (getD b 2 0) 0x1A ∷ [])
@@ -80,7 +88,8 @@ unfoldable pub ttcOf : List ℕ → Field
 ttcOf b =
     pick (eqb (getD b 3 0) 1) (deviceOf b)
     (pick (eqb (getD b 3 0) 2) (linkOf b)
-    (pick (eqb (getD b 3 0) 3) (listOf b) Skipped))
+    (pick (eqb (getD b 3 0) 3) (listOf b)
+    (pick (eqb (getD b 3 0) 4) (extensionOf b) Skipped)))
 
 -- by the type (L9); types 5 to 7 whatever their length, since the first of each decides (S4)
 unfoldable pub fieldOf : ℕ → List ℕ → Field

@@ -1,15 +1,18 @@
 // Fields: what one TLV behind the first three says, from its own information string and nothing behind it.
-// Port description (type 4), system fields (types 5 to 8) and the TTC fields of subtypes 1 to 3; everything else is skipped.
+// Port description (type 4), system fields (types 5 to 8) and the TTC fields of subtypes 1 to 4; everything else is skipped.
 ghost use mathlib.Core.Path.{_≡_};
 ghost use Rattle.tally.specs.Tests.{pick};
 ghost use Rattle.fields.specs.Device.{deviceOf};
-ghost use Rattle.fields.specs.Field.{descriptionOf, managementOk, linkOf, listOf, isTtc, ttcOf, fieldOf};
+ghost use Rattle.fields.specs.Field.{descriptionOf, managementOk, linkOf, listOf, extensionOf, isTtc, ttcOf, fieldOf};
 ghost use Rattle.fields.specs.declared.Field.the-variants.{Skipped, Malformed, Says};
+use extension::extension_fits;
 use links::link_fits;
 use octets::octet;
 use strings::Wanted;
 use strings::is_text;
 use strings::wanted_of;
+use text::Part;
+use text::text_of;
 
 // What a field can be about. Topics 1 to 4 are the device information of that ID.
 pub const PORT_DESCRIPTION: usize = 0;
@@ -26,14 +29,16 @@ pub const LINK: usize = 5;
 
 pub const ADDRESS_LIST: usize = 6;
 
-pub const SYSTEM_NAME: usize = 7;
+pub const EXTENSION: usize = 7;
 
-pub const SYSTEM_DESCRIPTION: usize = 8;
+pub const SYSTEM_NAME: usize = 8;
 
-pub const CAPABILITIES: usize = 9;
+pub const SYSTEM_DESCRIPTION: usize = 9;
+
+pub const CAPABILITIES: usize = 10;
 
 // How many topics there are of which one content is read; their numbers are below this.
-pub const TOPICS: usize = 10;
+pub const TOPICS: usize = 11;
 
 // The one topic of which several contents are read (S5).
 pub const MANAGEMENT: usize = TOPICS;
@@ -46,17 +51,17 @@ pub enum Field {
     Says { topic: usize, skip: usize },
 }
 
-// The content of a topic, where the field is well formed (A2).
-fn says_if(formed: bool, topic: usize, skip: usize) -> Field
-    ensures { λ r. ⌜ r ≡ pick formed (Says topic skip) Malformed ⌝ }
+// The content of a topic, where the field is as it must be (A2); where it is not, what it then counts as.
+fn says_if(right: bool, topic: usize, skip: usize, otherwise: Field) -> Field
+    ensures { λ r. ⌜ r ≡ pick right (Says topic skip) otherwise ⌝ }
 {
-    if formed {
+    if right {
         Field::Says {
             topic: topic,
             skip: skip,
         }
     } else {
-        Field::Malformed
+        otherwise
     }
 }
 
@@ -67,7 +72,7 @@ fn description(part: &[u8]) -> Field
     if part.len() > 255 {
         return Field::Malformed;
     }
-    says_if(is_text(part), PORT_DESCRIPTION, 0)
+    says_if(is_text(part), PORT_DESCRIPTION, 0, Field::Malformed)
 }
 
 // Whether a management address may have so many octets (S3).
@@ -78,19 +83,6 @@ pub fn management_fits(n: usize) -> bool
         return false;
     }
     n <= 167
-}
-
-// A system field, whose content is its whole information string; one that is not right is passed over and spoils nothing (S5, H1).
-fn system_field(right: bool, topic: usize) -> Field
-    ensures { λ r. ⌜ r ≡ pick right (Says topic 0) Skipped ⌝ }
-{
-    if !right {
-        return Field::Skipped;
-    }
-    Field::Says {
-        topic: topic,
-        skip: 0,
-    }
 }
 
 // Device information (T2). L is compared before the string's own length is believed.
@@ -134,7 +126,7 @@ fn device(part: &[u8]) -> Field
 fn link(part: &[u8]) -> Field
     ensures { λ r. ⌜ r ≡ linkOf (now (part .entry)) ⌝ }
 {
-    says_if(link_fits(part), LINK, 4)
+    says_if(link_fits(part), LINK, 4, Field::Malformed)
 }
 
 // Address list (T8): k, k addresses, and no octet more.
@@ -142,7 +134,21 @@ fn address_list(part: &[u8]) -> Field
     ensures { λ r. ⌜ r ≡ listOf (now (part .entry)) ⌝ }
 {
     let k = octet(part, 4) as usize;
-    says_if(part.len() == 5 + 6 * k, ADDRESS_LIST, 5)
+    says_if(part.len() == 5 + 6 * k, ADDRESS_LIST, 5, Field::Malformed)
+}
+
+// Extension link information (T11). One that is not well formed is passed over and spoils nothing (H1).
+fn extension(part: &[u8]) -> Field
+    ensures { λ r. ⌜ r ≡ extensionOf (now (part .entry)) ⌝ }
+{
+    let content = text_of(
+        part,
+        Part {
+            start: 4,
+            len: part.len(),
+        },
+    );
+    says_if(extension_fits(content), EXTENSION, 4, Field::Skipped)
 }
 
 // The organization code E0-27-1A (T1).
@@ -167,20 +173,22 @@ fn ttc(part: &[u8]) -> Field
         1 => device(part),
         2 => link(part),
         3 => address_list(part),
+        4 => extension(part),
         _ => Field::Skipped,
     }
 }
 
 // What a TLV of a type says, given its information string. Types 5 to 7 are noted whatever their length: the first of each decides (S4).
+// A management address of a wrong length is passed over and spoils nothing (S5, H1).
 pub fn field_of(kind: u8, part: &[u8]) -> Field
     ensures { λ r. ⌜ r ≡ fieldOf kind (now (part .entry)) ⌝ }
 {
     match kind {
         4 => description(part),
-        5 => system_field(true, SYSTEM_NAME),
-        6 => system_field(true, SYSTEM_DESCRIPTION),
-        7 => system_field(true, CAPABILITIES),
-        8 => system_field(management_fits(part.len()), MANAGEMENT),
+        5 => says_if(true, SYSTEM_NAME, 0, Field::Skipped),
+        6 => says_if(true, SYSTEM_DESCRIPTION, 0, Field::Skipped),
+        7 => says_if(true, CAPABILITIES, 0, Field::Skipped),
+        8 => says_if(management_fits(part.len()), MANAGEMENT, 0, Field::Skipped),
         127 => {
             if is_ttc(part) {
                 ttc(part)

@@ -4,6 +4,8 @@ use mathlib.Core.Path.{sym, _∙_}
 use Rattle.tally.proofs.Sole.{Sole}
 use Rattle.links.proofs.link_fits.Kinds as link-fits-kinds
 use Rattle.links.proofs.link_fits.Reads as link-fits
+use Rattle.links.proofs.one_to_four.Kinds as one-to-four-kinds
+use Rattle.links.proofs.one_to_four.Reads as one-to-four
 use Rattle.links.proofs.names.Kinds as names-kinds
 use Rattle.links.proofs.names.Reads as names
 
@@ -12,3 +14,6 @@ link-fits-sole κs a r q x y e f = e ∙ sym f
 
 pub names-sole : Sole 1 names-kinds.ps names-kinds.r names.Post
 names-sole κs a r q x y e f = e ∙ sym f
+
+pub one-to-four-sole : Sole 0 one-to-four-kinds.ps one-to-four-kinds.r one-to-four.Post
+one-to-four-sole κs a r q x y e f = e ∙ sym f

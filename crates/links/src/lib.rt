@@ -1,13 +1,13 @@
 // Link information (T7): whether an information string is well formed as one, and whether it names an address (A4).
-// Both look at one information string and at nothing behind it; any octets get an answer.
+// They look at one information string and at nothing behind it; any octets get an answer.
 ghost use mathlib.Core.Path.{_≡_};
 ghost use Rattle.links.specs.Link.{fourOk, linkOk, namesOf};
 use octets::octet;
 use octets::same_six;
 use octets::six;
 
-// The count of octets of an interface type or of a port number (T7).
-fn one_to_four(n: usize) -> bool
+// The count of octets of an interface type or of a port number (T7, T11).
+pub fn one_to_four(n: usize) -> bool
     ensures { λ r. ⌜ r ≡ fourOk n ⌝ }
 {
     if n < 1 {

@@ -1,4 +1,4 @@
--- Who sees an address (A4): the first well-formed link information that names it, with its two numbers.
+-- Who sees an address (A4): the first TLV that is well-formed link information, basic or extension, and names it, with its two numbers.
 -- The rest of the LLDPDU, the verdict and the address list play no part in it.
 use Prim.Native.Nat.{ℕ, _+_, _*_, _≤_}
 use mathlib.Core.Path.{_≡_}
@@ -12,14 +12,17 @@ use Rattle.tally.specs.Ranges as ranges
 use Rattle.octets.specs.Address.{sixAt, sameOctets}
 use Rattle.octets.specs.Numbers.{valueOf}
 use Rattle.links.specs.Link.{typeCount, numberCount, addressCount, namesOf}
-use Rattle.fields.specs.Field.{link, fieldOf}
+use Rattle.extension.specs.Layout.{extensionNames}
+use Rattle.extension.specs.Table.{Table, tableFrom}
+use Rattle.extension.specs.Asked.{addressOf}
+use Rattle.fields.specs.Field.{link, extension, fieldOf}
 use Rattle.fields.specs.declared.Field.{Field}
 use Rattle.fields.specs.declared.Field.the-variants.{Skipped, Malformed, Says}
-use Rattle.walk.specs.Walk.{Placed}
+use Rattle.walk.specs.Walk.{Tlv, Placed}
 use Rattle.lldpdu.specs.Extent.{refusalOfExtent, restOf, extentOf}
 use Rattle.walk.specs.declared.Extent.{Extent}
 use Rattle.walk.specs.declared.Extent.the-variants as extent-is
-use Rattle.found.specs.Contents.{LinkInfo, linkIn, contents, tlvsIn}
+use Rattle.found.specs.Contents.{LinkInfo, linkIn, tlvsIn}
 use Rattle.naming.specs.declared.Number.{Number}
 use Rattle.naming.specs.declared.Naming.{Naming}
 use Rattle.naming.specs.declared.Naming.the-variants.{Refused, Nowhere, Link}
@@ -35,18 +38,19 @@ numbersOf (Refused n) = none
 numbersOf Nowhere = none
 numbersOf (Link interface port) = some (interface, port)
 
-abbrev pub isLink : Field → Bool
-isLink Skipped = false
-isLink Malformed = false
-isLink (Says topic skip) = eqb topic link
+-- b is the information string of the field
+abbrev pub sees : Field → List ℕ → List ℕ → Bool
+sees Skipped b a = false
+sees Malformed b a = false
+sees (Says topic skip) b a = pick (eqb topic link) (namesOf b a) (both (eqb topic extension) (extensionNames (drop skip b) a))
 
-abbrev pub isLinkIn : ℕ → List ℕ → Bool
-isLinkIn kind b = isLink (fieldOf kind b)
+abbrev pub seesIn : ℕ → List ℕ → List ℕ → Bool
+seesIn kind b a = sees (fieldOf kind b) b a
 
 abbrev pub numberIn : List ℕ → Number
 numberIn l = record { octets = length l; value = valueOf l }
 
--- b is the information string of a well-formed link information (T7)
+-- b is the information string of well-formed link information of either kind (T7, T11)
 unfoldable pub numbersIn : List ℕ → Naming
 numbersIn b = Link (numberIn (take (typeCount 4 b) (drop 5 b))) (numberIn (take (numberCount 4 b) (drop (6 + typeCount 4 b) b)))
 
@@ -58,7 +62,7 @@ pub record Numbered (b : List ℕ) : Type 0 where
 
 unfoldable pub firstNaming : List ℕ → List Placed → Naming
 firstNaming a [] = Nowhere
-firstNaming a (p ∷ ps) = pick (both (isLinkIn (p .tlv .kind) (p .tlv .body)) (namesOf (p .tlv .body) a)) (numbersIn (p .tlv .body)) (firstNaming a ps)
+firstNaming a (p ∷ ps) = pick (seesIn (p .tlv .kind) (p .tlv .body) a) (numbersIn (p .tlv .body)) (firstNaming a ps)
 
 abbrev pub namingAt : Extent → List ℕ → List ℕ → Naming
 namingAt (extent-is.Refused n) s a = Refused n
@@ -76,17 +80,32 @@ namedIn c n m a = ranges.someBelow (λ i. sameOctets (sixAt c (3 + n + m + 6 * i
 abbrev pub numbersFrom : LinkInfo → Number × Number
 numbersFrom l = (numberIn (l .interface), numberIn (l .port))
 
-abbrev pub seenBy : List ℕ → List ℕ → ℕ → ℕ → Option (Number × Number) → Option (Number × Number)
-seenBy a c n m more = pick (namedIn c n m a) (some (numbersFrom (linkIn c n m))) more
+abbrev pub seenByLink : List ℕ → List ℕ → ℕ → ℕ → Option (Number × Number) → Option (Number × Number)
+seenByLink a c n m more = pick (namedIn c n m a) (some (numbersFrom (linkIn c n m))) more
 
--- the numbers of the first link information that names a
-unfoldable pub firstSeen : List ℕ → List (List ℕ) → Option (Number × Number)
+-- x is what extension link information says; one of its addresses is a, if they have six octets
+abbrev pub tableNames : Table → List ℕ → Bool
+tableNames x a = both (eqb (x .width) 6) (ranges.someBelow (λ i. sameOctets (addressOf x i) a) (length (x .entries)))
+
+abbrev pub seenByTable : List ℕ → Table → Option (Number × Number) → Option (Number × Number)
+seenByTable a x more = pick (tableNames x a) (some (numberIn (x .interface), numberIn (x .port))) more
+
+-- the content of a field begins behind the octets that it skips
+abbrev pub seenBy : List ℕ → Field → List ℕ → Option (Number × Number) → Option (Number × Number)
+seenBy a Skipped b more = more
+seenBy a Malformed b more = more
+seenBy a (Says topic skip) b more =
+    pick (eqb topic link) (seenByLink a (drop skip b) (typeCount 0 (drop skip b)) (numberCount 0 (drop skip b)) more)
+    (pick (eqb topic extension) (seenByTable a (tableFrom (drop skip b)) more) more)
+
+-- the numbers of the first TLV that names a
+unfoldable pub firstSeen : List ℕ → List Tlv → Option (Number × Number)
 firstSeen a [] = none
-firstSeen a (c ∷ cs) = seenBy a c (typeCount 0 c) (numberCount 0 c) (firstSeen a cs)
+firstSeen a (t ∷ ts) = seenBy a (fieldOf (t .kind) (t .body)) (t .body) (firstSeen a ts)
 
 abbrev pub seenAt : Extent → List ℕ → List ℕ → Option (Number × Number)
 seenAt (extent-is.Refused n) s a = none
-seenAt (extent-is.Octets e) s a = firstSeen a (contents link (tlvsIn s))
+seenAt (extent-is.Octets e) s a = firstSeen a (tlvsIn s)
 
 -- The contract of who sees an address: this answer and no other, with the refusal and the numbers that the rules give
 pub record Names (s a : List ℕ) (r : Naming) : Type 0 where

@@ -1,10 +1,11 @@
-// Who sees an address: the first well-formed link information of an LLDPDU that names it (A4).
-// HTIP or not does not matter, and a malformed link information is passed over.
+// Who sees an address: the first TLV of an LLDPDU that is well-formed link information, basic or extension, and names it (A4).
+// HTIP or not does not matter, and what is malformed is passed over.
 ghost use mathlib.Core.Path.{_≡_};
 ghost use Prim.Native.Nat.{_≤_};
 ghost use lib.ListN.{length, drop};
 ghost use Rattle.walk.specs.Walk.{walk};
-ghost use Rattle.naming.specs.Naming.{isLinkIn, numberIn, numbersIn, Numbered, firstNaming, Names};
+ghost use Rattle.naming.specs.Naming.{seesIn, numberIn, numbersIn, Numbered, firstNaming, Names};
+use extension::extension_names;
 use fields::Field;
 use fields::field_of;
 use links::names;
@@ -13,6 +14,8 @@ use lldpdu::extent_of;
 use lldpdu::rest_place;
 use octets::octet;
 use octets::value_of;
+use text::Part;
+use text::text_of;
 use walk::Step;
 use walk::step_at;
 
@@ -28,13 +31,29 @@ pub enum Naming {
     Link { interface: Number, port: Number },
 }
 
-fn is_link(kind: u8, part: &[u8]) -> bool
-    ensures { λ r. ⌜ r ≡ isLinkIn kind (now (part .entry)) ⌝ }
+// Whether a TLV is well-formed link information of either kind and names the address.
+fn sees(kind: u8, part: &[u8], address: [u8; 6]) -> bool
+    ensures { λ r. ⌜ r ≡ seesIn kind (now (part .entry)) address ⌝ }
 {
     match field_of(kind, part) {
         Field::Skipped => false,
         Field::Malformed => false,
-        Field::Says { topic, skip: _ } => topic == fields::LINK,
+        Field::Says { topic, skip } => {
+            if topic == fields::LINK {
+                return names(part, address);
+            }
+            if topic != fields::EXTENSION {
+                return false;
+            }
+            let content = text_of(
+                part,
+                Part {
+                    start: skip,
+                    len: part.len(),
+                },
+            );
+            extension_names(content, address)
+        }
     }
 }
 
@@ -48,7 +67,7 @@ fn number_of(part: &[u8]) -> Number
     }
 }
 
-// Interface type and port number of a well-formed link information.
+// Interface type and port number, which stand at the same places in both kinds of link information.
 fn numbers_of(part: &[u8]) -> Naming
     requires { ⌜ Numbered (now part) ⌝ }
     ensures { λ r. ⌜ r ≡ numbersIn (now (part .entry)) ⌝ }
@@ -77,10 +96,8 @@ fn naming_from(s: &[u8], from: usize, address: [u8; 6]) -> Naming
             Step::Next { kind, start, len } => {
                 let end = start + len;
                 let part = &s[start..end];
-                if is_link(kind, part) {
-                    if names(part, address) {
-                        return numbers_of(part);
-                    }
+                if sees(kind, part, address) {
+                    return numbers_of(part);
                 }
                 at = end;
             }

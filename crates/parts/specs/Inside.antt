@@ -11,8 +11,8 @@ use Rattle.text.specs.declared.Parts.{Parts}
 use Rattle.system.specs.declared.System.{System}
 use Rattle.reading.specs.declared.Link.{Link}
 use Rattle.reading.specs.declared.Link.the-variants as link-is
-use Rattle.reading.specs.declared.AddressList.{AddressList}
-use Rattle.reading.specs.declared.AddressList.the-variants as list-is
+use Rattle.text.specs.declared.Optional.{Optional}
+use Rattle.text.specs.declared.Optional.the-variants as optional-is
 use Rattle.reading.specs.declared.Description.{Description}
 
 abbrev pub partInside : ℕ → Part → Bool
@@ -29,9 +29,9 @@ abbrev pub linkInside : ℕ → Link → Bool
 linkInside n link-is.Absent = true
 linkInside n (link-is.Table i p a) = all (partInside n i ∷ partInside n p ∷ partInside n a ∷ [])
 
-abbrev pub listInside : ℕ → AddressList → Bool
-listInside n list-is.Absent = true
-listInside n (list-is.Listed a) = partInside n a
+abbrev pub optionalInside : ℕ → Optional → Bool
+optionalInside n optional-is.Absent = true
+optionalInside n (optional-is.Present a) = partInside n a
 
 abbrev pub partRules : ℕ → Description → List Bool
 partRules n d =
@@ -43,7 +43,8 @@ partRules n d =
     ∷ partInside n (d .model)
     ∷ partInside n (d .number)
     ∷ linkInside n (d .link)
-    ∷ listInside n (d .list)
+    ∷ optionalInside n (d .extension)
+    ∷ optionalInside n (d .list)
     ∷ all (systemInside n (d .system))
     ∷ []
 

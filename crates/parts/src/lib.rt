@@ -2,13 +2,13 @@
 // An empty part must lie inside too; a part that begins at the end of the text does.
 ghost use mathlib.Core.Path.{_≡_};
 ghost use Rattle.tally.specs.Tests.{all};
-ghost use Rattle.parts.specs.Inside.{partInside, partsInside, systemInside, linkInside, listInside, allInside};
-use reading::AddressList;
+ghost use Rattle.parts.specs.Inside.{partInside, partsInside, systemInside, linkInside, optionalInside, allInside};
 use reading::Description;
 use reading::Link;
 use reading::link_parts;
 use system::System;
 use text::MOST_PARTS;
+use text::Optional;
 use text::Part;
 use text::Parts;
 use text::nth_part;
@@ -66,12 +66,12 @@ fn link_inside(n: usize, l: Link) -> bool
     part_inside(n, t.addresses)
 }
 
-fn list_inside(n: usize, l: AddressList) -> bool
-    ensures { λ r. ⌜ r ≡ listInside n l ⌝ }
+fn optional_inside(n: usize, o: Optional) -> bool
+    ensures { λ r. ⌜ r ≡ optionalInside n o ⌝ }
 {
-    match l {
-        AddressList::Absent => true,
-        AddressList::Listed(a) => part_inside(n, a),
+    match o {
+        Optional::Absent => true,
+        Optional::Present(a) => part_inside(n, a),
     }
 }
 
@@ -102,11 +102,15 @@ pub fn all_inside(n: usize, d: Description) -> bool
         return false;
     }
     let link = d.link;
+    let extension = d.extension;
     let list = d.list;
     if !link_inside(n, link) {
         return false;
     }
-    if !list_inside(n, list) {
+    if !optional_inside(n, extension) {
+        return false;
+    }
+    if !optional_inside(n, list) {
         return false;
     }
     let system = d.system;

@@ -1,4 +1,4 @@
--- The reading means the answer of the rules: texts, link information, address list and system fields, beside the verdict.
+-- The reading means the answer of the rules: texts, link information, extension link information, address list and system fields, beside the verdict.
 -- `reading-means` is the theorem; the code cites `ready`, `assembled` and `reads-exactly`.
 use Prim.{Unit, tt}
 use Prim.Native.Nat.{ℕ, zero, suc, _+_, _*_, _<_, _≤_}
@@ -14,7 +14,7 @@ use lib.Dec.{eqb}
 use Rattle.tally.specs.Tests.{pick}
 use Rattle.octets.proofs.PartLaws.{part-of-part, rest-of-part}
 use Rattle.links.specs.Link.{typeCount, numberCount, addressCount, linkOk}
-use Rattle.fields.specs.Field.{portDescription, category, manufacturer, modelName, modelNumber, link, addressList, topics, fieldOf}
+use Rattle.fields.specs.Field.{portDescription, category, manufacturer, modelName, modelNumber, link, addressList, extension, topics, fieldOf}
 use Rattle.fields.specs.declared.Field.{Field}
 use Rattle.fields.specs.declared.Field.the-variants.{Skipped, Malformed, Says}
 use Rattle.links.proofs.LinkLaws.{link-has}
@@ -22,11 +22,11 @@ use Rattle.fields.proofs.FieldLaws.{Fits, field-fits}
 use Rattle.walk.specs.Walk.{Tlv, walk}
 use Rattle.lldpdu.specs.Extent.{restPlace, restOf, extentOf}
 use Rattle.lldpdu.specs.Outline.{outlineAt, outlineOf}
-use Rattle.text.specs.Part.{textOf}
+use Rattle.text.specs.Part.{textOf, optionalText}
 use Rattle.found.specs.Found.{nothing, markOf, gather, htipIn}
-use Rattle.reading.specs.Reading.{linkAt, listAt, linkParts, foundIn, descriptionAt, refusedReading, readingAt, readingOf}
+use Rattle.reading.specs.Reading.{linkAt, optionalAt, linkParts, foundIn, descriptionAt, refusedReading, readingAt, readingOf}
 use Rattle.found.specs.Contents.{onField, contents, LinkInfo, linkIn, tlvsIn}
-use Rattle.reading.specs.Meaning.{firstLink, firstList, saidIn, answerAt, answerOf, linkMeant, listMeant, saidBy, meant, Reads}
+use Rattle.reading.specs.Meaning.{firstLink, firstContent, saidIn, answerAt, answerOf, linkMeant, saidBy, meant, Reads}
 use Rattle.lldpdu.proofs.ExtentLaws.{outline-extent}
 use Rattle.found.proofs.MarkLaws.{AllIn, walk-in, textAt, upTo2, Means, topic-means}
 use Rattle.found.proofs.VerdictLaws.{htip-means}
@@ -133,10 +133,10 @@ unfolding linkAt
 link-fits s m [] l i = rw (eq-eqb (m .times) 0 (i .count)) tt
 link-fits s m (c ∷ cs) l i = table-fits s m (met i) (i .inside) (rw (i .text) (l .0))
 
-list-means : (s : List ℕ) (m : Mark) (cs : List (List ℕ)) → Means s m cs → listMeant s (listAt m) ≡ firstList cs
-unfolding listAt
-list-means s m [] i = rw (eq-eqb (m .times) 0 (i .count))
-list-means s m (c ∷ cs) i = rw (met i) (ap some (i .text))
+optional-means : (s : List ℕ) (m : Mark) (cs : List (List ℕ)) → Means s m cs → optionalText s (optionalAt m) ≡ firstContent cs
+unfolding optionalAt
+optional-means s m [] i = rw (eq-eqb (m .times) 0 (i .count))
+optional-means s m (c ∷ cs) i = rw (met i) (ap some (i .text))
 
 -- The whole answer
 
@@ -160,7 +160,8 @@ said-means s e =
       m modelName (omega arith) .text,
       m modelNumber (omega arith) .text,
       link-means s (markOf link (foundIn s)) (contents link (tlvsIn s)) (contents-end (tlvsIn s)) (m link (omega arith)),
-      list-means s (markOf addressList (foundIn s)) (contents addressList (tlvsIn s)) (m addressList (omega arith)),
+      optional-means s (markOf extension (foundIn s)) (contents extension (tlvsIn s)) (m extension (omega arith)),
+      optional-means s (markOf addressList (foundIn s)) (contents addressList (tlvsIn s)) (m addressList (omega arith)),
       system-means s (restOf s .tlvs) (rest-in s),
     )
 

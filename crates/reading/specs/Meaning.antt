@@ -7,20 +7,18 @@ use mathlib.Core.Bool.{Bool, false}
 use mathlib.Core.Option.{Option, none, some}
 use Rattle.links.specs.Link.{typeCount, numberCount}
 use Rattle.found.specs.Contents.{contents, htipOf, first, LinkInfo, linkIn, tlvsIn}
-use Rattle.fields.specs.Field.{portDescription, category, manufacturer, modelName, modelNumber, link, addressList}
+use Rattle.fields.specs.Field.{portDescription, category, manufacturer, modelName, modelNumber, link, addressList, extension}
 use Rattle.walk.specs.Walk.{Tlv}
 use Rattle.ids.specs.Id.{Id, id, idMeant}
 use Rattle.lldpdu.specs.Extent.{refusalOfExtent, octetsIn, portPlace, idIn, extentOf}
 use Rattle.lldpdu.specs.Outline.{secondsIn}
-use Rattle.text.specs.Part.{textOf}
+use Rattle.text.specs.Part.{textOf, optionalText}
 use Rattle.system.specs.System.{SystemInfo, systemIn, unsaid, systemMeant}
 use Rattle.reading.specs.Reading.{readingOf}
 use Rattle.walk.specs.declared.Extent.{Extent}
 use Rattle.walk.specs.declared.Extent.the-variants.{Refused, Octets}
 use Rattle.reading.specs.declared.Link.{Link}
 use Rattle.reading.specs.declared.Link.the-variants as link-is
-use Rattle.reading.specs.declared.AddressList.{AddressList}
-use Rattle.reading.specs.declared.AddressList.the-variants as list-is
 use Rattle.reading.specs.declared.Description.{Description}
 use Rattle.reading.specs.declared.Reading.{Reading}
 
@@ -36,17 +34,18 @@ pub record Said : Type 0 where
   pub model : List ℕ
   pub number : List ℕ
   pub link : Option LinkInfo
+  pub extension : Option (List ℕ)
   pub list : Option (List ℕ)
   pub system : SystemInfo
 
--- an absent link information and an absent list differ from empty ones (A3)
+-- absent link information and absent octets differ from empty ones (A3)
 abbrev pub firstLink : List (List ℕ) → Option LinkInfo
 firstLink [] = none
 firstLink (c ∷ l) = some (linkIn c (typeCount 0 c) (numberCount 0 c))
 
-abbrev pub firstList : List (List ℕ) → Option (List ℕ)
-firstList [] = none
-firstList (x ∷ l) = some x
+abbrev pub firstContent : List (List ℕ) → Option (List ℕ)
+firstContent [] = none
+firstContent (x ∷ l) = some x
 
 -- chassis, port ID and seconds from TLVs 1 to 3, the rest from the TLVs ts behind them
 abbrev pub saidIn : List ℕ → List Tlv → Said
@@ -61,7 +60,8 @@ saidIn s ts =
       model = first (contents modelName ts);
       number = first (contents modelNumber ts);
       link = firstLink (contents link ts);
-      list = firstList (contents addressList ts);
+      extension = firstContent (contents extension ts);
+      list = firstContent (contents addressList ts);
       system = systemIn ts;
     }
 
@@ -90,6 +90,7 @@ refusedAnswer n =
             model = [];
             number = [];
             link = none;
+            extension = none;
             list = none;
             system = unsaid;
           };
@@ -108,10 +109,6 @@ abbrev pub linkMeant : List ℕ → Link → Option LinkInfo
 linkMeant s link-is.Absent = none
 linkMeant s (link-is.Table i p a) = some (record { interface = textOf s i; port = textOf s p; addresses = textOf s a })
 
-abbrev pub listMeant : List ℕ → AddressList → Option (List ℕ)
-listMeant s list-is.Absent = none
-listMeant s (list-is.Listed a) = some (textOf s a)
-
 abbrev pub saidBy : List ℕ → Description → Said
 saidBy s d =
     record {
@@ -124,7 +121,8 @@ saidBy s d =
       model = textOf s (d .model);
       number = textOf s (d .number);
       link = linkMeant s (d .link);
-      list = listMeant s (d .list);
+      extension = optionalText s (d .extension);
+      list = optionalText s (d .list);
       system = systemMeant s (d .system);
     }
 

@@ -6,7 +6,7 @@ use mathlib.Core.Bool.{true, false}
 use lib.Dec.{eqb}
 use Rattle.tally.specs.Tests.{pick}
 use Rattle.links.specs.Link.{typeCount, numberCount, addressCount}
-use Rattle.fields.specs.Field.{portDescription, category, manufacturer, modelName, modelNumber, link, addressList}
+use Rattle.fields.specs.Field.{portDescription, category, manufacturer, modelName, modelNumber, link, addressList, extension}
 use Rattle.lldpdu.specs.Extent.{restOf, extentOf}
 use Rattle.lldpdu.specs.Outline.{noId, outlineAt}
 use Rattle.text.specs.Part.{part, nowhere, textOf}
@@ -20,8 +20,8 @@ use Rattle.found.specs.declared.Found.{Found}
 use Rattle.reading.specs.declared.Link.{Link}
 use Rattle.reading.specs.declared.Link.the-variants as link-is
 use Rattle.reading.specs.declared.LinkParts.{LinkParts}
-use Rattle.reading.specs.declared.AddressList.{AddressList}
-use Rattle.reading.specs.declared.AddressList.the-variants as list-is
+use Rattle.text.specs.declared.Optional.{Optional}
+use Rattle.text.specs.declared.Optional.the-variants as optional-is
 use Rattle.reading.specs.declared.Description.{Description}
 use Rattle.reading.specs.declared.Reading.{Reading}
 
@@ -37,8 +37,8 @@ tableIn c at = tableAt at (typeCount 0 c) (numberCount 0 c) (addressCount 0 c)
 unfoldable pub linkAt : List ℕ → Mark → Link
 linkAt s m = pick (eqb (m .times) 0) link-is.Absent (tableIn (textOf s (partAt m)) (m .start))
 
-unfoldable pub listAt : Mark → AddressList
-listAt m = pick (eqb (m .times) 0) list-is.Absent (list-is.Listed (partAt m))
+unfoldable pub optionalAt : Mark → Optional
+optionalAt m = pick (eqb (m .times) 0) optional-is.Absent (optional-is.Present (partAt m))
 
 -- link information taken apart; absent, its parts are empty (A3)
 abbrev pub linkParts : Link → LinkParts
@@ -58,7 +58,8 @@ descriptionAt s o f =
       model = partAt (markOf modelName f);
       number = partAt (markOf modelNumber f);
       link = linkAt s (markOf link f);
-      list = listAt (markOf addressList f);
+      extension = optionalAt (markOf extension f);
+      list = optionalAt (markOf addressList f);
       system = systemAt s f;
     }
 
@@ -81,7 +82,8 @@ refusedReading n =
             model = nowhere;
             number = nowhere;
             link = link-is.Absent;
-            list = list-is.Absent;
+            extension = optional-is.Absent;
+            list = optional-is.Absent;
             system = emptySystem;
           };
     }

@@ -5,7 +5,7 @@ ghost use Prim.Native.Nat.{_^_, _<_, _≤_};
 ghost use lib.ListN.{length};
 ghost use Rattle.fields.specs.Field.{link};
 ghost use Rattle.found.specs.Found.{markOf};
-ghost use Rattle.reading.specs.Reading.{tableIn, linkAt, listAt, linkParts, descriptionAt, refusedReading};
+ghost use Rattle.reading.specs.Reading.{tableIn, linkAt, optionalAt, linkParts, descriptionAt, refusedReading};
 ghost use Rattle.reading.specs.Meaning.{Reads};
 use found::Found;
 use found::Mark;
@@ -21,6 +21,7 @@ use octets::octet;
 use system::System;
 use system::empty_system;
 use system::system_at;
+use text::Optional;
 use text::Part;
 use text::text_of;
 
@@ -32,12 +33,6 @@ pub enum Link {
         port: Part,
         addresses: Part,
     },
-}
-
-// The octets of all addresses of an address list (T8).
-pub enum AddressList {
-    Absent,
-    Listed(Part),
 }
 
 // What an announcement says, for the reader and for the writer. An absent string is an empty part (A2).
@@ -53,7 +48,10 @@ pub struct Description {
     pub model: Part,
     pub number: Part,
     pub link: Link,
-    pub list: AddressList,
+    // the octets of extension link information behind the subtype (T11)
+    pub extension: Optional,
+    // the octets of all addresses of the address list (T8)
+    pub list: Optional,
     // the standard's own fields (S1 to S5)
     pub system: System,
 }
@@ -134,14 +132,15 @@ fn link_at(s: &[u8], m: Mark) -> Link
     table_in(text_of(s, part_at(m)), m.start)
 }
 
-fn list_at(m: Mark) -> AddressList
-    ensures { λ r. ⌜ r ≡ listAt m ⌝ }
+// Absent, or the first content of a topic.
+fn optional_at(m: Mark) -> Optional
+    ensures { λ r. ⌜ r ≡ optionalAt m ⌝ }
 {
-    let listed = m.times;
-    if listed == 0 {
-        return AddressList::Absent;
+    let times = m.times;
+    if times == 0 {
+        return Optional::Absent;
     }
-    AddressList::Listed(part_at(m))
+    Optional::Present(part_at(m))
 }
 
 // Chassis, port ID and seconds are those of the outline; the rest is what was found behind them.
@@ -161,7 +160,8 @@ fn description_at(s: &[u8], o: Outline, found: Found) -> Description
         model: part_at(found.marks[fields::MODEL_NAME]),
         number: part_at(found.marks[fields::MODEL_NUMBER]),
         link: link_at(s, found.marks[fields::LINK]),
-        list: list_at(found.marks[fields::ADDRESS_LIST]),
+        extension: optional_at(found.marks[fields::EXTENSION]),
+        list: optional_at(found.marks[fields::ADDRESS_LIST]),
         system: system_at(s, found),
     }
 }
@@ -187,7 +187,8 @@ pub fn refused_reading(n: u8) -> Reading
             model: none,
             number: none,
             link: Link::Absent,
-            list: AddressList::Absent,
+            extension: Optional::Absent,
+            list: Optional::Absent,
             system: empty_system(),
         },
     }

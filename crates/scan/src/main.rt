@@ -2,11 +2,11 @@
 // Standard input has one octet, the thousands of turns, and the frame. One turn more is made, and a number made of all that was read is printed.
 use libc::STDIN_FILENO;
 use libc::STDOUT_FILENO;
-use reader::AddressList;
 use reader::Capabilities;
 use reader::Extent;
 use reader::IdPart;
 use reader::Link;
+use reader::Optional;
 use reader::Part;
 use reader::Reading;
 use reader::System;
@@ -40,10 +40,10 @@ fn link_of(link: Link) -> usize {
     part_of(t.interface) ^ part_of(t.port) ^ part_of(t.addresses)
 }
 
-fn list_of(list: AddressList) -> usize {
-    match list {
-        AddressList::Absent => 0,
-        AddressList::Listed(a) => part_of(a),
+fn optional_of(o: Optional) -> usize {
+    match o {
+        Optional::Absent => 0,
+        Optional::Present(p) => part_of(p),
     }
 }
 
@@ -68,6 +68,7 @@ fn mixed(r: Reading) -> usize {
     let chassis = d.chassis;
     let port = d.port;
     let link = d.link;
+    let extension = d.extension;
     let list = d.list;
     let system = d.system;
     let verdict = if r.htip { 1024 } else { 2048 };
@@ -83,7 +84,8 @@ fn mixed(r: Reading) -> usize {
         ^ d.seconds as usize
         ^ strings
         ^ link_of(link)
-        ^ list_of(list)
+        ^ optional_of(extension)
+        ^ optional_of(list)
         ^ system_of(system)
 }
 

@@ -10,7 +10,7 @@ use lib.ListN.{length, take}
 use lib.Dec.{eqb}
 use Rattle.tally.specs.Tests.{pick, both}
 use Rattle.text.specs.Part.{mostParts}
-use Rattle.fields.specs.Field.{addressList, systemName, systemDescription, capabilities, management, descriptionOf, managementOk, managementOf, isTtc, ttcOf, fieldOf}
+use Rattle.fields.specs.Field.{extension, systemName, systemDescription, capabilities, management, descriptionOf, managementOk, managementOf, isTtc, ttcOf, fieldOf}
 use Rattle.fields.specs.declared.Field.{Field}
 use Rattle.fields.specs.declared.Field.the-variants.{Skipped, Malformed, Says}
 use Rattle.fields.proofs.FieldLaws.{FitsTo, description-fits, ttc-fits}
@@ -41,13 +41,13 @@ module _ (b : List ℕ) (more : List (List ℕ)) where
   abbrev met : ℕ → ℕ → List (List ℕ)
   met topic k = onField (fieldOf k b) topic b more
 
-  -- what is said up to address lists is no content of the system
-  low : (topic : ℕ) → addressList < topic → (x : Field) → FitsTo addressList b x → onField x topic b more ≡ more
+  -- what a port description or a TTC field says is no content of the system
+  low : (topic : ℕ) → extension < topic → (x : Field) → FitsTo extension b x → onField x topic b more ≡ more
   low topic h Skipped f = refl
   low topic h Malformed f = refl
   low topic h (Says n skip) f = rw (ne-eqb topic n (λ e. omega (arith, f .known)))
 
-  ttc-low : (topic : ℕ) → addressList < topic → (t : Bool) → onField (pick t (ttcOf b) Skipped) topic b more ≡ more
+  ttc-low : (topic : ℕ) → extension < topic → (t : Bool) → onField (pick t (ttcOf b) Skipped) topic b more ≡ more
   ttc-low topic h true = low topic h (ttcOf b) (ttc-fits b)
   ttc-low topic h false = refl
 
@@ -72,7 +72,7 @@ module _ (b : List ℕ) (more : List (List ℕ)) where
       go false = refl
 
   -- each topic of the system by the type of the TLV: what is said at types 5, 6, 7 and 8
-  at-type : (topic : ℕ) → addressList < topic → (found : ℕ → List (List ℕ)) → met topic 5 ≡ found 5 → met topic 6 ≡ found 6 → met topic 7 ≡ found 7 → met topic 8 ≡ found 8
+  at-type : (topic : ℕ) → extension < topic → (found : ℕ → List (List ℕ)) → met topic 5 ≡ found 5 → met topic 6 ≡ found 6 → met topic 7 ≡ found 7 → met topic 8 ≡ found 8
       → ((n : ℕ) → eqb n 5 ≡ false → eqb n 6 ≡ false → eqb n 7 ≡ false → eqb n 8 ≡ false → found n ≡ more)
       → (k : ℕ) → met topic k ≡ found k
   unfolding fieldOf

@@ -12,6 +12,8 @@ use Rattle.tlvs.proofs.put_tlv.Kinds as tlv-kinds
 use Rattle.tlvs.proofs.put_tlv.Reads as tlv
 use Rattle.tlvs.proofs.put_string.Kinds as string-kinds
 use Rattle.tlvs.proofs.put_string.Reads as string
+use Rattle.tlvs.proofs.put_extended.Kinds as extended-kinds
+use Rattle.tlvs.proofs.put_extended.Reads as extended
 use Rattle.tlvs.proofs.put_flags.Kinds as flags-kinds
 use Rattle.tlvs.proofs.put_flags.Reads as flags
 use Rattle.tlvs.proofs.put_device.Kinds as device-kinds
@@ -44,6 +46,9 @@ put-device-sole κs a r q x y = same-put
 
 pub put-table-sole : SolePut 4 table-kinds.ps table-kinds.r table.Post (λ κs x. now (x .0))
 put-table-sole κs a r q x y = same-put
+
+pub put-extended-sole : SolePut 2 extended-kinds.ps extended-kinds.r extended.Post (λ κs x. now (x .0))
+put-extended-sole κs a r q x y = same-put
 
 pub put-listed-sole : SolePut 2 listed-kinds.ps listed-kinds.r listed.Post (λ κs x. now (x .0))
 put-listed-sole κs a r q x y = same-put

@@ -14,7 +14,7 @@ use Rattle.octets.specs.Header.{high, low}
 use Rattle.ids.specs.Id.{id}
 use Rattle.walk.specs.Walk.{Tlv}
 use Rattle.found.specs.Contents.{LinkInfo}
-use Rattle.tlvs.specs.Tlvs.{written, octetsOf, idTlv, deviceTlv, linkContent, linkTlv, listTlv, unlessEmpty, ifLinked, ifListed, countable, linkCounts, countableLink, countableList}
+use Rattle.tlvs.specs.Tlvs.{written, octetsOf, idTlv, deviceTlv, linkContent, linkTlv, extensionTlv, listTlv, unlessEmpty, ifLinked, ifListed, countable, linkCounts, countableLink, countableList}
 
 -- One TLV, and none
 
@@ -53,6 +53,11 @@ pub device-written : (id : ℕ) (x : List ℕ) → ttcHead 1 (6 + length x) ++ (
 device-written id x =
     let m : 6 + length x ≡ length (deviceTlv id x .body) = omega arith in
     ap (λ (k : ℕ). high 127 k ∷ low k ∷ 0xE0 ∷ 0x27 ∷ 0x1A ∷ 1 ∷ id ∷ length x ∷ x) m
+
+pub extension-written : (x : List ℕ) → ttcHead 4 (4 + length x) ++ x ≡ written (extensionTlv x)
+extension-written x =
+    let m : 4 + length x ≡ length (extensionTlv x .body) = omega arith in
+    ap (λ (k : ℕ). high 127 k ∷ low k ∷ 0xE0 ∷ 0x27 ∷ 0x1A ∷ 4 ∷ x) m
 
 pub list-written : (a : List ℕ) → ttcHead 3 (5 + length a) ++ (length a / 6 ∷ a) ≡ octetsOf (ifListed (some a))
 list-written a =

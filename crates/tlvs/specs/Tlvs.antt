@@ -1,5 +1,5 @@
--- The TLVs that the writer writes (L1 to L7, T1 to T10, S1 to S3), and their octets.
--- An empty string is absent and has no TLV. Nor have absent capabilities, absent link information and an absent address list.
+-- The TLVs that the writer writes (L1 to L7, T1 to T11, S1 to S3), and their octets.
+-- An empty string is absent and has no TLV. Nor have absent capabilities, absent link information of either kind and an absent address list.
 use Prim.Native.Nat.{ℕ, _/_, _%_}
 use mathlib.Core.List.{List, [], _∷_, _++_}
 use mathlib.Core.Option.{Option, none, some}
@@ -73,6 +73,10 @@ linkContent l = length (l .interface) ∷ (l .interface ++ (length (l .port) ∷
 abbrev pub linkTlv : LinkInfo → Tlv
 linkTlv l = ttcTlv 2 (linkContent l)
 
+-- T11: the octets behind the subtype, n to the last item
+abbrev pub extensionTlv : List ℕ → Tlv
+extensionTlv content = ttcTlv 4 content
+
 -- T8: k, k addresses of six octets
 abbrev pub listTlv : List ℕ → Tlv
 listTlv addresses = ttcTlv 3 (length addresses / 6 ∷ addresses)
@@ -91,9 +95,15 @@ abbrev pub ifLinked : Option LinkInfo → List Tlv
 ifLinked none = []
 ifLinked (some l) = linkTlv l ∷ []
 
+abbrev pub ifPresent : (List ℕ → Tlv) → Option (List ℕ) → List Tlv
+ifPresent f none = []
+ifPresent f (some x) = f x ∷ []
+
+abbrev pub ifExtended : Option (List ℕ) → List Tlv
+ifExtended content = ifPresent extensionTlv content
+
 abbrev pub ifListed : Option (List ℕ) → List Tlv
-ifListed none = []
-ifListed (some addresses) = listTlv addresses ∷ []
+ifListed addresses = ifPresent listTlv addresses
 
 -- link information by its three parts
 abbrev pub linkInfo : List ℕ → List ℕ → List ℕ → LinkInfo

@@ -9,7 +9,7 @@ ghost use Rattle.octets.specs.Header.{high, low};
 ghost use Rattle.text.specs.Part.{textOf};
 ghost use Rattle.ids.specs.Id.{idMeant};
 ghost use Rattle.system.specs.System.{flags};
-ghost use Rattle.tlvs.specs.Tlvs.{tlv, written, octetsOf, idTlv, secondsTlv, flagsTlv, deviceTlv, linkInfo, unlessEmpty, ifLinked, ifListed, countable, countableLink, countableList};
+ghost use Rattle.tlvs.specs.Tlvs.{tlv, written, octetsOf, idTlv, secondsTlv, flagsTlv, deviceTlv, extensionTlv, linkInfo, unlessEmpty, ifLinked, ifListed, countable, countableLink, countableList};
 use ids::IdPart;
 use octets::high_of;
 use octets::low_of;
@@ -144,6 +144,14 @@ pub fn put_table(
     let b = put_counted(out, a, n as u8, interface);
     let c = put_counted(out, b, m as u8, port);
     put_counted(out, c, (k / 6) as u8, addresses)
+}
+
+// Extension link information, whose octets behind the subtype are at hand (T11).
+pub fn put_extended(out: &mut [u8], at: usize, content: &[u8]) -> usize
+    ensures { λ r. ⌜ outputAt (now (out .exit)) r ≡ puts (written (extensionTlv (now (content .entry)))) (outputAt (now (out .entry)) at) ⌝ }
+{
+    let a = put_ttc(out, at, 4, 4 + content.len());
+    put_all(out, a, content)
 }
 
 // An address list (T8).

@@ -14,7 +14,7 @@ use lib.Seq.{take-at, take-all, drop-at}
 use lib.Dec.{leb, eqb}
 use Rattle.tally.specs.Tests.{pick, both}
 use Rattle.tally.proofs.RangesLaws.{all-each}
-use Rattle.fields.specs.Field.{portDescription, category, manufacturer, modelName, modelNumber, link, addressList, systemName, systemDescription, management, topics}
+use Rattle.fields.specs.Field.{portDescription, category, manufacturer, modelName, modelNumber, link, addressList, extension, systemName, systemDescription, management, topics}
 use Rattle.lldpdu.specs.Extent.{portPlace, idAt, restOf, extentOf}
 use Rattle.lldpdu.proofs.ExtentLaws.{good, reads}
 use Rattle.lldpdu.proofs.Stable.{sized}
@@ -28,7 +28,7 @@ use Rattle.found.specs.Found.{partAt, markOf}
 use Rattle.found.proofs.ManagementLaws.{Lists, management-means}
 use Rattle.system.specs.System.{shortAt}
 use Rattle.system.proofs.SystemLaws.{short-inside}
-use Rattle.reading.specs.Reading.{linkAt, listAt, foundIn, readingOf}
+use Rattle.reading.specs.Reading.{linkAt, optionalAt, foundIn, readingOf}
 use Rattle.reader.specs.Frame.{frameOk, ReadsFrame}
 use Rattle.reader.proofs.Agree.{frame-reads}
 use Rattle.reading.specs.Meaning.{ReaderAnswer, answerOf, saidBy, meant, Reads}
@@ -36,11 +36,11 @@ use Rattle.reading.proofs.MeaningLaws.{LinkFits, reading-link-fits, rest-in, ma
 use Rattle.found.specs.declared.Mark.{Mark}
 use Rattle.reading.specs.declared.Link.{Link}
 use Rattle.reading.specs.declared.Link.the-variants as link-is
-use Rattle.reading.specs.declared.AddressList.the-variants as list-is
+use Rattle.text.specs.declared.Optional.the-variants as optional-is
 use Rattle.reading.specs.declared.Description.{Description}
 use Rattle.reading.specs.declared.Reading.{Reading}
 use Rattle.announcement.specs.Encode.{encode}
-use Rattle.parts.specs.Inside.{partInside, partsInside, linkInside, listInside, allInside}
+use Rattle.parts.specs.Inside.{partInside, partsInside, linkInside, optionalInside, allInside}
 use Rattle.parts.proofs.InsideLaws.{asked, asked-is, asked-all}
 use Rattle.description.specs.Rules.{soundOf}
 use Rattle.writer.specs.Write.{keeps, writeOf, octetsWritten, over, Writes}
@@ -110,11 +110,11 @@ link-inside : (n : ℕ) (l : Link) → LinkFits n l → linkInside n l ≡ true
 link-inside n link-is.Absent h = refl
 link-inside n (link-is.Table i p a) h = rw (part-fits n i (h .0), part-fits n p (h .1 .0), part-fits n a (h .1 .1))
 
-list-inside : (n : ℕ) (m : Mark) → m .start + m .len ≤ n → listInside n (listAt m) ≡ true
-unfolding listAt
-list-inside n m h = go (eqb (m .times) 0)
+optional-inside : (n : ℕ) (m : Mark) → m .start + m .len ≤ n → optionalInside n (optionalAt m) ≡ true
+unfolding optionalAt
+optional-inside n m h = go (eqb (m .times) 0)
   where
-    go : (b : Bool) → listInside n (pick b list-is.Absent (list-is.Listed (partAt m))) ≡ true
+    go : (b : Bool) → optionalInside n (pick b optional-is.Absent (optional-is.Present (partAt m))) ≡ true
     go true = refl
     go false = part-fits n (partAt m) h
 
@@ -143,7 +143,8 @@ reading-inside s e v =
       m modelName (omega arith),
       m modelNumber (omega arith),
       link-inside (length s) (linkAt s (markOf link (foundIn s))) (reading-link-fits s),
-      list-inside (length s) (markOf addressList (foundIn s)) (marks-inside s addressList (omega arith)),
+      optional-inside (length s) (markOf extension (foundIn s)) (marks-inside s extension (omega arith)),
+      optional-inside (length s) (markOf addressList (foundIn s)) (marks-inside s addressList (omega arith)),
       string systemName (omega arith),
       string systemDescription (omega arith),
       parts-inside s (foundIn s .management) (contents management (tlvsIn s)) (management-means s (restOf s .tlvs) (rest-in s)),

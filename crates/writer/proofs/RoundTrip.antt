@@ -14,7 +14,7 @@ use Rattle.tally.proofs.TestsLaws.{held}
 use Rattle.octets.specs.Numbers.{pairOf}
 use Rattle.strings.specs.Wants.{wantedOf}
 use Rattle.text.specs.Part.{mostParts}
-use Rattle.fields.specs.Field.{portDescription, category, manufacturer, modelName, modelNumber, link, addressList, systemName, systemDescription, capabilities, management}
+use Rattle.fields.specs.Field.{portDescription, category, manufacturer, modelName, modelNumber, link, addressList, extension, systemName, systemDescription, capabilities, management}
 use Rattle.walk.specs.Walk.{headOf, Walked, walk}
 use Rattle.ids.specs.Id.{Id, chassisOk, portOk}
 use Rattle.ids.proofs.IdLaws.{chassis-short, port-short}
@@ -30,13 +30,13 @@ use Rattle.system.proofs.TypeLaws.{by-topics}
 use Rattle.reading.specs.Meaning.{Said, saidIn, ReaderAnswer, refusedAnswer, answerOf}
 use Rattle.reader.specs.Frame.{frameOk, onFrame}
 use Rattle.reader.proofs.Agree.{frame-agrees}
-use Rattle.tlvs.specs.Tlvs.{written, octetsOf, idTlv, chassisTlv, portTlv, secondsTlv, endTlv, wordsTlv, nameTlv, systemDescriptionTlv, managementTlv, deviceTlv, unlessEmpty, ifFlagged, ifLinked, ifListed}
+use Rattle.tlvs.specs.Tlvs.{written, octetsOf, idTlv, chassisTlv, portTlv, secondsTlv, endTlv, wordsTlv, nameTlv, systemDescriptionTlv, managementTlv, deviceTlv, unlessEmpty, ifFlagged, ifLinked, ifExtended, ifListed}
 use Rattle.announcement.specs.Encode.{systemTlvs, deviceTlvs, fieldTlvs, tlvsOf, encode}
 use Rattle.description.specs.Rules.{goodbyeRules, liveRules, soundOf}
 use Rattle.description.proofs.RulesLaws.{Kept, kept}
 use Rattle.tlvs.proofs.TlvLaws.{octets-append}
 use Rattle.writer.proofs.ReadBack.{head-written, AllPassed, passed-append, laid, laid-are, walk-octets}
-use Rattle.writer.proofs.Topics.{formed-both, Speaks, unlessNone, speaks-string, words-about, system-name-about, system-description-about, speaks-management, device-about, flagsContents, speaks-flags, first-flags, linkContents, speaks-link, first-link, listContents, speaks-list, first-list, first-string}
+use Rattle.writer.proofs.Topics.{formed-both, Speaks, unlessNone, speaks-string, words-about, system-name-about, system-description-about, speaks-management, device-about, flagsContents, speaks-flags, first-flags, linkContents, speaks-link, speaks-extension, first-link, optionalContents, speaks-list, first-optional, first-string}
 
 -- What is said of a description that keeps the rules
 
@@ -79,7 +79,10 @@ module _ (d : Said) (sound : soundOf d ≡ true) where
   link-speaks : Speaks (ifLinked (d .link)) link (linkContents (d .link))
   link-speaks = speaks-link (d .link) (rules-kept .link)
 
-  list-speaks : Speaks (ifListed (d .list)) addressList (listContents (d .list))
+  extension-speaks : Speaks (ifExtended (d .extension)) extension (optionalContents (d .extension))
+  extension-speaks = speaks-extension (d .extension) (rules-kept .extension)
+
+  list-speaks : Speaks (ifListed (d .list)) addressList (optionalContents (d .list))
   list-speaks = speaks-list (d .list) (rules-kept .list)
 
   fields-passed : AllPassed (fieldTlvs d)
@@ -90,7 +93,7 @@ module _ (d : Said) (sound : soundOf d ≡ true) where
       (passed-append (system-name-speaks .passed) (passed-append (system-description-speaks .passed) (passed-append (flags-speak .passed) (management-speaks .passed))))
       (passed-append
       (passed-append (category-speaks .passed) (passed-append (manufacturer-speaks .passed) (passed-append (model-speaks .passed) (number-speaks .passed))))
-      (passed-append (link-speaks .passed) (list-speaks .passed))))
+      (passed-append (link-speaks .passed) (passed-append (extension-speaks .passed) (list-speaks .passed)))))
 
   fields-formed : wellFormed (fieldTlvs d) ≡ true
   unfolding fieldTlvs systemTlvs deviceTlvs
@@ -100,7 +103,7 @@ module _ (d : Said) (sound : soundOf d ≡ true) where
       (formed-both _ _ (system-name-speaks .well-formed) (formed-both _ _ (system-description-speaks .well-formed) (formed-both _ _ (flags-speak .well-formed) (management-speaks .well-formed))))
       (formed-both _ _
       (formed-both _ _ (category-speaks .well-formed) (formed-both _ _ (manufacturer-speaks .well-formed) (formed-both _ _ (model-speaks .well-formed) (number-speaks .well-formed))))
-      (formed-both _ _ (link-speaks .well-formed) (list-speaks .well-formed))))
+      (formed-both _ _ (link-speaks .well-formed) (formed-both _ _ (extension-speaks .well-formed) (list-speaks .well-formed)))))
 
   -- the contents of any topic, one behind the other; at a topic all but one of them are empty
   fields-contents : (topic : ℕ)
@@ -114,7 +117,8 @@ module _ (d : Said) (sound : soundOf d ≡ true) where
       ++ (pick (eqb topic manufacturer) (unlessNone (d .manufacturer)) []
       ++ (pick (eqb topic modelName) (unlessNone (d .model)) []
       ++ (pick (eqb topic modelNumber) (unlessNone (d .number)) []
-      ++ (pick (eqb topic link) (linkContents (d .link)) [] ++ pick (eqb topic addressList) (listContents (d .list)) [])))))))))
+      ++ (pick (eqb topic link) (linkContents (d .link)) []
+      ++ (pick (eqb topic extension) (optionalContents (d .extension)) [] ++ pick (eqb topic addressList) (optionalContents (d .list)) []))))))))))
   unfolding fieldTlvs systemTlvs deviceTlvs
   fields-contents topic =
       simp (contents-append, append-assoc)
@@ -129,6 +133,7 @@ module _ (d : Said) (sound : soundOf d ≡ true) where
         model-speaks .contents-are topic,
         number-speaks .contents-are topic,
         link-speaks .contents-are topic,
+        extension-speaks .contents-are topic,
         list-speaks .contents-are topic,
       ))
 
@@ -151,7 +156,10 @@ module _ (d : Said) (sound : soundOf d ≡ true) where
   link-contents : contents link (fieldTlvs d) ≡ linkContents (d .link)
   link-contents = fields-contents link ∙ append-nil (linkContents (d .link))
 
-  list-contents : contents addressList (fieldTlvs d) ≡ listContents (d .list)
+  extension-contents : contents extension (fieldTlvs d) ≡ optionalContents (d .extension)
+  extension-contents = fields-contents extension ∙ append-nil (optionalContents (d .extension))
+
+  list-contents : contents addressList (fieldTlvs d) ≡ optionalContents (d .list)
   list-contents = fields-contents addressList
 
   -- of the system fields what is read: a string that is no longer than 255 octets is itself, and four or fewer are all
@@ -345,6 +353,7 @@ module _ (d : Said) (t : List ℕ) where
           model-back d sound,
           number-back d sound,
           link-contents d sound,
+          extension-contents d sound,
           list-contents d sound,
           first-string (d .words),
           first-string (d .category),
@@ -352,7 +361,8 @@ module _ (d : Said) (t : List ℕ) where
           first-string (d .model),
           first-string (d .number),
           first-link (d .link) (kept d sound .link),
-          first-list (d .list),
+          first-optional (d .extension),
+          first-optional (d .list),
           system-back d sound,
         )
 

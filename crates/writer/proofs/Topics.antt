@@ -16,7 +16,7 @@ use Rattle.strings.specs.Text.{textOk}
 use Rattle.strings.specs.Wants.{wantedOf}
 use Rattle.fields.specs.Device.{deviceOf}
 use Rattle.links.specs.Link.{linkOk, listOk}
-use Rattle.fields.specs.Field.{link, addressList, portDescription, systemName, systemDescription, capabilities, management, descriptionOf, managementOk, managementOf, linkOf, listOf, isTtc, ttcOf, fieldOf}
+use Rattle.fields.specs.Field.{link, addressList, extension, portDescription, systemName, systemDescription, capabilities, management, descriptionOf, managementOk, managementOf, linkOf, listOf, extensionOf, isTtc, ttcOf, fieldOf}
 use Rattle.strings.specs.declared.Wanted.the-variants.{Text}
 use Rattle.fields.specs.declared.Field.the-variants.{Says}
 use Rattle.links.proofs.LinkLaws.{link-counts}
@@ -26,9 +26,10 @@ use Rattle.found.specs.Contents.{contents, wellFormed, LinkInfo, first}
 use Rattle.found.proofs.ContentsLaws.{formed-append}
 use Rattle.octets.specs.Numbers.{pairOf}
 use Rattle.system.specs.System.{Flags, flags, flagsIn, managementSound}
-use Rattle.reading.specs.Meaning.{firstLink, firstList}
-use Rattle.tlvs.specs.Tlvs.{tlv, wordsTlv, nameTlv, systemDescriptionTlv, flagsTlv, managementTlv, ttcTlv, deviceTlv, linkContent, linkTlv, listTlv, unlessEmpty, ifFlagged, ifLinked, ifListed}
-use Rattle.description.specs.Rules.{tableRules, tableSound, linkSound, listedSound, listSound}
+use Rattle.reading.specs.Meaning.{firstLink, firstContent}
+use Rattle.tlvs.specs.Tlvs.{tlv, wordsTlv, nameTlv, systemDescriptionTlv, flagsTlv, managementTlv, ttcTlv, deviceTlv, linkContent, linkTlv, extensionTlv, listTlv, unlessEmpty, ifFlagged, ifLinked, ifExtended, ifListed}
+use Rattle.description.specs.Rules.{tableRules, tableSound, linkSound, contentSound, extensionSound, listedSound, listSound}
+use Rattle.description.proofs.RulesLaws.{content}
 use Rattle.tlvs.proofs.TlvLaws.{link-length}
 use Rattle.writer.proofs.ReadBack.{Passed, AllPassed, none-passed, more-passed}
 
@@ -169,6 +170,14 @@ list-about a e =
       goes = ttc-passed 3 (length a / 6 ∷ a) (omega arith);
     }
 
+-- Extension link information (T11)
+
+pub extension-about : (c : List ℕ) → contentSound c ≡ true → About (extensionTlv c) extension c
+unfolding fieldOf isTtc ttcOf extensionOf
+extension-about c e =
+    let h = content c e in
+    record { skip = 4; says = rw (h .formed); content = refl; goes = ttc-passed 4 c (omega (arith, h .short)) }
+
 -- Link information (T7)
 
 module _ (l : LinkInfo) (e : tableSound (length (l .interface)) (length (l .port)) (length (l .addresses)) ≡ true) where
@@ -184,8 +193,8 @@ module _ (l : LinkInfo) (e : tableSound (length (l .interface)) (length (l .port
   abbrev tail : List ℕ
   tail = k / 6 ∷ l .addresses
 
-  abbrev content : List ℕ
-  content = linkContent l
+  abbrev linked : List ℕ
+  linked = linkContent l
 
   rules-hold : Held (tableRules n m k)
   rules-hold = held (tableRules n m k) e
@@ -194,18 +203,18 @@ module _ (l : LinkInfo) (e : tableSound (length (l .interface)) (length (l .port
   sixes = eqb-true (k % 6) 0 (rules-hold .1 .1 .1 .1 .0)
 
   -- the octets in front of a count, with f in front of the content
-  numbered : (f : List ℕ) → getD (f ++ content) (length f + (1 + n)) 0 ≡ m
+  numbered : (f : List ℕ) → getD (f ++ linked) (length f + (1 + n)) 0 ≡ m
   numbered f =
       ap (λ (x : List ℕ). getD x (length f + (1 + n)) 0) (sym (append-assoc f (n ∷ l .interface) (m ∷ (l .port ++ tail))))
       ∙ getD-at (f ++ (n ∷ l .interface)) m (l .port ++ tail) 0 (length f + (1 + n)) (length-append f (n ∷ l .interface) ∙ omega arith)
 
-  split : content ≡ (n ∷ (l .interface ++ (m ∷ l .port))) ++ tail
+  split : linked ≡ (n ∷ (l .interface ++ (m ∷ l .port))) ++ tail
   split = ap (λ (x : List ℕ). n ∷ x) (sym (append-assoc (l .interface) (m ∷ l .port) tail))
 
   front-long : length (n ∷ (l .interface ++ (m ∷ l .port))) ≡ 2 + n + m
   front-long = omega (arith, length-append (l .interface) (m ∷ l .port))
 
-  counted : (f : List ℕ) → getD (f ++ content) (length f + (2 + n + m)) 0 ≡ k / 6
+  counted : (f : List ℕ) → getD (f ++ linked) (length f + (2 + n + m)) 0 ≡ k / 6
   counted f =
       let front = n ∷ (l .interface ++ (m ∷ l .port)) in
       ap (λ (x : List ℕ). getD (f ++ x) (length f + (2 + n + m)) 0) split
@@ -224,27 +233,27 @@ module _ (l : LinkInfo) (e : tableSound (length (l .interface)) (length (l .port
       link-counts b refl q r
       ∙ rw (h .0, h .1 .0, h .1 .1 .0, h .1 .1 .1 .0, eq-eqb (length b) (7 + n + m + 6 * (k / 6)) (omega (arith, link-length l)))
 
-  pub link-about : About (linkTlv l) link content
+  pub link-about : About (linkTlv l) link linked
   unfolding fieldOf isTtc ttcOf linkOf
   link-about =
       let h : 7 + n + m + k ≤ 511 = leb-true (7 + n + m + k) 511 (rules-hold .1 .1 .1 .1 .1 .0) in
-      record { skip = 4; says = rw table-formed; content = refl; goes = ttc-passed 2 content (omega (arith, link-length l)) }
+      record { skip = 4; says = rw table-formed; content = refl; goes = ttc-passed 2 linked (omega (arith, link-length l)) }
 
-  port-from : drop (2 + n) content ≡ l .port ++ tail
+  port-from : drop (2 + n) linked ≡ l .port ++ tail
   port-from =
       ap (λ (x : List ℕ). drop (2 + n) (n ∷ x)) (sym (append-assoc (l .interface) (m ∷ []) (l .port ++ tail)))
       ∙ drop-at (n ∷ (l .interface ++ (m ∷ []))) (l .port ++ tail) (2 + n) (omega (arith, length-append (l .interface) (m ∷ [])))
 
-  rest-from : drop (3 + n + m) content ≡ l .addresses
+  rest-from : drop (3 + n + m) linked ≡ l .addresses
   rest-from =
       ap (drop (3 + n + m)) (split ∙ sym (append-assoc (n ∷ (l .interface ++ (m ∷ l .port))) (k / 6 ∷ []) (l .addresses)))
       ∙ drop-at ((n ∷ (l .interface ++ (m ∷ l .port))) ++ (k / 6 ∷ [])) (l .addresses) (3 + n + m)
       (omega (arith, length-append (n ∷ (l .interface ++ (m ∷ l .port))) (k / 6 ∷ []), front-long))
 
-  pub link-back : firstLink (content ∷ []) ≡ some l
+  pub link-back : firstLink (linked ∷ []) ≡ some l
   link-back =
       let e : 1 + n ≡ 0 + (1 + n) = omega arith in
-      let second : getD content (1 + n) 0 ≡ m = ap (λ (i : ℕ). getD content i 0) e ∙ numbered [] in
+      let second : getD linked (1 + n) 0 ≡ m = ap (λ (i : ℕ). getD linked i 0) e ∙ numbered [] in
       rw (second, port-from, rest-from, take-at (l .interface) (m ∷ (l .port ++ tail)) n refl, take-at (l .port) tail m refl)
 
 -- What the optional ones speak of
@@ -275,17 +284,21 @@ first-flags (some f) =
     let joined : (n : ℕ) → pairOf (n / 256) (n % 256) ≡ n = λ n. omega arith in
     ap₂ (λ (x y : ℕ). some (flags x y)) (joined (f .able)) (joined (f .enabled))
 
-abbrev pub listContents : Option (List ℕ) → List (List ℕ)
-listContents none = []
-listContents (some a) = a ∷ []
+abbrev pub optionalContents : Option (List ℕ) → List (List ℕ)
+optionalContents none = []
+optionalContents (some a) = a ∷ []
 
-pub speaks-list : (o : Option (List ℕ)) → listSound o ≡ true → Speaks (ifListed o) addressList (listContents o)
+pub speaks-extension : (o : Option (List ℕ)) → extensionSound o ≡ true → Speaks (ifExtended o) extension (optionalContents o)
+speaks-extension none e = silent extension
+speaks-extension (some c) e = speaks-one (extension-about c e)
+
+pub speaks-list : (o : Option (List ℕ)) → listSound o ≡ true → Speaks (ifListed o) addressList (optionalContents o)
 speaks-list none e = silent addressList
 speaks-list (some a) e = speaks-one (list-about a e)
 
-pub first-list : (o : Option (List ℕ)) → firstList (listContents o) ≡ o
-first-list none = refl
-first-list (some a) = refl
+pub first-optional : (o : Option (List ℕ)) → firstContent (optionalContents o) ≡ o
+first-optional none = refl
+first-optional (some a) = refl
 
 pub first-string : (l : List ℕ) → first (unlessNone l) ≡ l
 first-string [] = refl

@@ -2,7 +2,7 @@
 -- 9 is decided first, by the answer for an output of 1,500 octets: what keeps the rules has room there.
 use Prim.Native.Nat.{ℕ, _/_, _<_, _≤_}
 use mathlib.Core.Path.{_≡_, refl, sym, ap, ap₂, _∙_}
-use mathlib.Core.List.{List, _++_}
+use mathlib.Core.List.{List, [], _∷_, _++_}
 use mathlib.Core.Bool.{Bool, true, false, not}
 use mathlib.Core.Option.{Option, none, some}
 use native.Mathlib.Decide.{decLt}
@@ -16,17 +16,19 @@ use Rattle.tally.specs.Tests.{pick, both, all}
 use Rattle.tally.proofs.TestsLaws.{both-false}
 use Rattle.output.specs.Output.{Output, outputAt, puts}
 use Rattle.output.proofs.OutputLaws.{puts-fits, puts-full}
+use Rattle.text.specs.Part.{optionalText}
+use Rattle.text.specs.declared.Optional.the-variants.{Absent}
 use Rattle.found.specs.Contents.{LinkInfo}
 use Rattle.system.specs.System.{unsaid, emptySystem, systemMeant}
 use Rattle.reading.specs.Meaning.{Said, saidBy}
 use Rattle.reading.specs.declared.Description.{Description}
 use Rattle.tlvs.specs.Tlvs.{countable, countableLink, countableList}
 use Rattle.announcement.specs.Encode.{encode, countableOf}
-use Rattle.announcement.proofs.EncodeLaws.{octetsBefore, without-system}
+use Rattle.announcement.proofs.EncodeLaws.{octetsWithout, without-extension, octetsBefore, without-both}
 use Rattle.parts.specs.Inside.{systemInside, allInside}
-use Rattle.parts.proofs.InsideLaws.{insideBefore, inside-without-system}
+use Rattle.parts.proofs.InsideLaws.{insideBefore, inside-without-extension, inside-without-both}
 use Rattle.description.specs.Rules.{linkSound, listSound, soundOf}
-use Rattle.description.proofs.RulesLaws.{kept, table, listed, rulesBefore, rules-without-system}
+use Rattle.description.proofs.RulesLaws.{kept, table, listed, rulesWithout, rules-without-extension, rulesBefore, rules-without-both}
 use Rattle.writer.specs.Write.{refusalOfWritten, octetsWritten, keeps, answerFor, writeOf, over, Writes}
 use Rattle.writer.specs.declared.Written.{Written}
 use Rattle.writer.specs.declared.Written.the-variants.{Octets, Refused}
@@ -90,6 +92,7 @@ countable-all d e =
       model = model i;
       number = number i;
       link = link i;
+      extension = d .extension;
       list = list i;
       system = d .system;
     }
@@ -180,20 +183,38 @@ module _ (s : List ℕ) (d : Description) (room : ℕ) where
       go true false = refl
       go false b = refl
 
--- A description that says nothing of the system gets the answer of before there were system fields, by the tests, the rules and the octets of then; and
--- these octets are what is written. Its empty parts must lie inside the text, as those of `empty_system` do
-module _ (s : List ℕ) (d : Description) (silent : systemMeant s (d .system) ≡ unsaid) where
-  pub octets-as-before : encode (saidBy s d) ≡ octetsBefore (saidBy s d)
-  octets-as-before = without-system (saidBy s d) silent
+-- A description without extension link information gets the answer of before there was any, by the tests, the rules and the octets of then; and these octets
+-- are what is written
+module _ (s : List ℕ) (d : Description) (absent : d .extension ≡ Absent) where
+  said-absent : optionalText s (d .extension) ≡ none
+  said-absent = ap (optionalText s) absent
 
-  pub answer-as-before : all (systemInside (length s) (d .system)) ≡ true → (room : ℕ)
+  pub octets-without-extension : encode (saidBy s d) ≡ octetsWithout (saidBy s d)
+  octets-without-extension = without-extension (saidBy s d) said-absent
+
+  pub answer-without-extension : (room : ℕ)
       → writeOf s d room
-      ≡ answerFor (both (all (insideBefore (length s) d)) (all (rulesBefore (saidBy s d)))) (length (octetsBefore (saidBy s d))) room
+      ≡ answerFor (both (all (insideBefore (length s) d (all (systemInside (length s) (d .system)) ∷ []))) (all (rulesWithout (saidBy s d)))) (length (octetsWithout (saidBy s d))) room
   unfolding writeOf keeps
-  answer-as-before inside room =
+  answer-without-extension room =
       ap₂ (λ (k : Bool) (x : List ℕ). answerFor k (length x) room)
-      (ap₂ both (inside-without-system (length s) d inside) (rules-without-system (saidBy s d) silent))
-      octets-as-before
+      (ap₂ both (inside-without-extension (length s) d absent) (rules-without-extension (saidBy s d) said-absent))
+      octets-without-extension
+
+  -- One that says nothing of the system either gets the answer of before there were system fields, likewise. Its empty parts must lie inside the text, as
+  -- those of `empty_system` do
+  module _ (silent : systemMeant s (d .system) ≡ unsaid) where
+    pub octets-as-before : encode (saidBy s d) ≡ octetsBefore (saidBy s d)
+    octets-as-before = without-both (saidBy s d) silent said-absent
+
+    pub answer-as-before : all (systemInside (length s) (d .system)) ≡ true → (room : ℕ)
+        → writeOf s d room
+        ≡ answerFor (both (all (insideBefore (length s) d [])) (all (rulesBefore (saidBy s d)))) (length (octetsBefore (saidBy s d))) room
+    unfolding writeOf keeps
+    answer-as-before inside room =
+        ap₂ (λ (k : Bool) (x : List ℕ). answerFor k (length x) room)
+        (ap₂ both (inside-without-both (length s) d inside absent) (rules-without-both (saidBy s d) silent said-absent))
+        octets-as-before
 
 pub empty-silent : (s : List ℕ) → systemMeant s emptySystem ≡ unsaid
 empty-silent s = refl

@@ -116,6 +116,7 @@ impl Maker {
             system_description: vec![],
             capabilities: None,
             management: Management::default(),
+            extension: None,
         }
     }
 

@@ -160,6 +160,7 @@ impl Maker {
                 system_description: Part::default(),
                 capabilities: None,
                 management: Management::default(),
+                extension: None,
             };
             let text = self.rng.picks(HEX, 18);
             let strings = description.with(|part| Some(vec![0; part.len as usize]));

@@ -6,7 +6,8 @@ use crate::writer::{Description, LinkStrings, Management, Part};
 
 pub type Plan = Description<Vec<u8>>;
 
-/// The strings of a description, in its order. Those of the system fields stand last.
+/// The strings of a description, in its order. Those of the system fields stand behind the others,
+/// and extension link information last.
 #[derive(Clone, Copy, Debug, PartialEq, Eq)]
 pub enum Field {
     Chassis,
@@ -26,14 +27,15 @@ pub enum Field {
     SecondManagement,
     ThirdManagement,
     FourthManagement,
+    Extension,
 }
 
 use Field::*;
 
 impl Field {
-    /// All of them, each with the most octets that its own rule allows (L3, L4, T10, T3, T7, T8,
-    /// S1, S3).
-    const ALL: [(Field, usize); 17] = [
+    /// All but extension link information, whose octets have to suit each other (T11). Each has the
+    /// most octets that its own rule allows (L3, L4, T10, T3, T7, T8, S1, S3).
+    const BUT_EXTENSION: [(Field, usize); 17] = [
         (Chassis, 64),
         (Port, 255),
         (Words, 255),
@@ -54,13 +56,13 @@ impl Field {
     ];
 
     /// All but those of the system fields.
-    pub const BASIC: &[(Field, usize)] = Field::ALL.split_at(SystemName as usize).0;
+    pub const BASIC: &[(Field, usize)] = Field::BUT_EXTENSION.split_at(SystemName as usize).0;
 
     /// Those of the system fields.
-    pub const SYSTEM: &[(Field, usize)] = Field::ALL.split_at(SystemName as usize).1;
+    pub const SYSTEM: &[(Field, usize)] = Field::BUT_EXTENSION.split_at(SystemName as usize).1;
 
-    /// All but the chassis, whose number of octets depends on its subtype (L3).
-    pub const BEHIND_CHASSIS: &[(Field, usize)] = Field::ALL.split_at(1).1;
+    /// All but that and the chassis, whose number of octets depends on its subtype (L3).
+    pub const BEHIND_CHASSIS: &[(Field, usize)] = Field::BUT_EXTENSION.split_at(1).1;
 
     /// Those of them that are no system fields.
     pub const BASIC_BEHIND_CHASSIS: &[(Field, usize)] = Field::BASIC.split_at(1).1;
@@ -103,6 +105,7 @@ impl<S> Description<S> {
             SecondManagement => &mut self.management.slots[1],
             ThirdManagement => &mut self.management.slots[2],
             FourthManagement => &mut self.management.slots[3],
+            Extension => self.extension.as_mut().expect("extension link information is present"),
         }
     }
 
@@ -133,11 +136,12 @@ impl Plan {
             system_description: reading.system_description.clone(),
             capabilities: reading.capabilities,
             management: Management::of(reading.management.clone()),
+            extension: reading.extension.clone(),
         }
     }
 
     /// How many octets the LLDPDU would have (W1), from the lengths of the strings alone: the two
-    /// octets of each header, and L by L3 to L5, T2, T7, T8 and S1 to S3.
+    /// octets of each header, and L by L3 to L5, T2, T7, T8, T11 and S1 to S3.
     pub(super) fn length(&self) -> usize {
         let [chassis, port] = [&self.chassis, &self.port].map(|id| 2 + 1 + id.octets.len());
         let if_any = |besides, strings: &[&Vec<u8>]| -> usize {
@@ -156,8 +160,10 @@ impl Plan {
             2 + 7 + interface.len() + number.len() + addresses.len()
         });
         let list = self.list.as_ref().map_or(0, |addresses| 2 + 5 + addresses.len());
+        let extension = self.extension.as_ref().map_or(0, |octets| 2 + 4 + octets.len());
         let first_three = chassis + port + (2 + 2);
-        first_three + texts + capabilities + management + devices + link + list + 2
+        let tables = link + extension + list;
+        first_three + texts + capabilities + management + devices + tables + 2
     }
 
     /// All strings that are there, in the order of the description.
@@ -170,11 +176,12 @@ impl Plan {
         strings
     }
 
-    /// The strings that a text is made of, by their numbers. System fields that are not there take
-    /// no part in it.
+    /// The strings that a text is made of, by their numbers. System fields that are not there, and
+    /// extension link information of no octets, take no part in it.
     pub(super) fn numbers(&self) -> Vec<usize> {
         let strings = self.strings();
-        let basic = strings.len() - 2 - self.management.given().len();
+        let extension = usize::from(self.extension.is_some());
+        let basic = strings.len() - 2 - self.management.given().len() - extension;
         (0..strings.len()).filter(|&i| i < basic || !strings[i].is_empty()).collect()
     }
 

@@ -1,9 +1,10 @@
 //! Random cases: sound plans, and plans in which one or two things are broken, in random rooms.
 //! They look for what nobody thought of; the rules themselves have cases of their own.
 
+use super::extension::malformed;
 use super::maker::{Maker, LONGEST_LLDPDU};
 use super::plan::{Field, Plan};
-use crate::frames::blocks::wrong_chassis;
+use crate::frames::blocks::{wrong_chassis, LONGEST_BODY};
 use crate::writer::Part;
 
 impl Maker {
@@ -22,6 +23,16 @@ impl Maker {
             let plan = self.some();
             let plan = self.with_system(plan);
             self.part_too_far(plan, Field::SYSTEM);
+        }
+    }
+
+    /// The same with extension link information.
+    pub fn random_of_extensions(&mut self) {
+        self.compositions(70, 50, Maker::random_plan_of_extensions, Maker::break_extension);
+        for _ in 0..10 {
+            let mut plan = self.some();
+            plan.extension = Some(self.any_shape().body());
+            self.part_too_far(plan, &[(Field::Extension, LONGEST_BODY)]);
         }
     }
 
@@ -89,6 +100,29 @@ impl Maker {
         let mut plan = self.with_some_system(plan);
         self.random_strings(&mut plan, Field::SYSTEM, long);
         plan
+    }
+
+    /// The same with extension link information, long or short. A goodbye has none (W3).
+    fn random_plan_of_extensions(&mut self, long: bool) -> Plan {
+        if self.rng.once_in(10) {
+            return self.goodbye();
+        }
+        let plan = self.some();
+        let mut plan = self.with_some_system(plan);
+        let shape = self.any_shape();
+        let shape = if long { shape.of_length(LONGEST_BODY) } else { shape };
+        plan.extension = Some(shape.body());
+        plan
+    }
+
+    /// As `break_a_rule`, but mostly that of extension link information (W7). On a goodbye it is
+    /// broken by being there (W3).
+    fn break_extension(&mut self, plan: &mut Plan) {
+        if self.rng.once_in(4) {
+            return self.break_a_rule(plan);
+        }
+        let wrong = malformed(&self.any_shape());
+        plan.extension = Some(wrong[self.rng.below(wrong.len())].clone());
     }
 
     /// Those of the strings that have octets get others, of any length that is allowed.

@@ -36,16 +36,7 @@ impl Maker {
                             plan.at(field).clear();
                         }
                     }
-                    match link {
-                        0 => plan.link = None,
-                        1 => plan.at(Field::LinkAddresses).clear(),
-                        _ => {}
-                    }
-                    match list {
-                        0 => plan.list = None,
-                        1 => plan.at(Field::ListAddresses).clear(),
-                        _ => {}
-                    }
+                    leave_out(&mut plan, link, list);
                     self.sound(&plan);
                 }
             }
@@ -383,5 +374,19 @@ impl Maker {
             let steps = (too_many.min(length - least) / step).min(self.rng.between(1, 40));
             plan.at(field).truncate(length - steps * step);
         }
+    }
+}
+
+/// Each of the two tables becomes absent (0), stays and becomes empty (1), or stays as it is (A3).
+pub fn leave_out(plan: &mut Plan, link: usize, list: usize) {
+    match link {
+        0 => plan.link = None,
+        1 => plan.at(Field::LinkAddresses).clear(),
+        _ => {}
+    }
+    match list {
+        0 => plan.list = None,
+        1 => plan.at(Field::ListAddresses).clear(),
+        _ => {}
     }
 }

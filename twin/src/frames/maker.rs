@@ -13,8 +13,13 @@ pub struct Maker {
 
 impl Maker {
     pub fn add(&mut self, kind: Kind, octets: Vec<u8>, asked: Address) {
+        self.add_asking(kind, octets, asked, (0, 0));
+    }
+
+    /// The numbers i and j are asked of extension link information too (A6).
+    pub fn add_asking(&mut self, kind: Kind, octets: Vec<u8>, asked: Address, (i, j): (u8, u8)) {
         assert!(octets.len() <= 2000);
-        self.cases.push(Case { kind, asked, octets });
+        self.cases.push(Case { kind, asked, i, j, octets });
     }
 
     /// A frame as it stands, header and all.

@@ -3,6 +3,7 @@
 
 use super::blocks::*;
 use super::maker::Maker;
+use super::shape::random_shape;
 use super::Kind;
 use crate::id::Id;
 use crate::reader::Address;
@@ -115,6 +116,26 @@ impl Maker {
         }
         self.rng.shuffle(&mut later);
         later
+    }
+
+    /// The same with extension link information among them, mostly well formed (T11).
+    pub fn random_later_of_extensions(&mut self, pool: &[Address], spoilt: bool) -> Vec<Tlv> {
+        let mut later = self.random_later(pool, spoilt);
+        for _ in 0..self.rng.between(1, 3) {
+            later.push(self.random_extension(pool));
+        }
+        self.rng.shuffle(&mut later);
+        later
+    }
+
+    /// One time in four an octet is another one, or it ends too soon or too late.
+    pub fn random_extension(&mut self, pool: &[Address]) -> Tlv {
+        let mut body = random_shape(&mut self.rng, pool).body();
+        if self.rng.once_in(4) {
+            self.damage(&mut body);
+        }
+        body.truncate(LONGEST_BODY);
+        ttc(4, &body)
     }
 
     /// Mostly of a right length, and often at the limits (S1 to S3).

@@ -383,7 +383,8 @@ impl Maker {
         }
     }
 
-    /// TTC subtypes: 1 to 3 are judged, the others are skipped (T9).
+    /// TTC subtypes: 1 to 3 are judged, behind 4 nothing here is well formed (T11), and the others
+    /// are skipped (T9).
     fn subtypes(&mut self) {
         let bodies = [
             vec![],

@@ -38,6 +38,7 @@ pub fn reading_of_a() -> Reading {
         model_name: vec![],
         model_number: vec![0x37],
         link: None,
+        extension: None,
         list: None,
         system_name: vec![],
         system_description: vec![],

@@ -28,6 +28,7 @@ pub fn description_of_a() -> Description {
         system_description: part(0, 0),
         capabilities: None,
         management: Management::default(),
+        extension: None,
     }
 }
 

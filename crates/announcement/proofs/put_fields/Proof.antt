@@ -20,6 +20,9 @@ put-devices-requires c κs = search needs
 put-link-requires : tie.Need-put-link-requires
 put-link-requires c κs = search needs
 
+put-extension-requires : tie.Need-put-extension-requires
+put-extension-requires c κs = search needs
+
 put-list-requires : tie.Need-put-list-requires
 put-list-requires c κs = search needs
 
@@ -33,8 +36,15 @@ returns c =
     let c3 = c2 .before .before .before .before in
     let c4 = c3 .before .before .before .before in
     let c5 = c4 .before .before .before .before in
-    let a = c5 .before .before .before .before .before .args in
-    fields-put (countableOf (saidBy (now (a .text)) (a .d))) _ (c5 .put-string .ensures) (c4 .put-system .ensures) (c3 .put-devices .ensures) (c2 .put-link .ensures) (c1 .put-list .ensures)
+    let c6 = c5 .before .before .before .before in
+    let a = c6 .before .before .before .before .before .args in
+    fields-put (countableOf (saidBy (now (a .text)) (a .d))) _
+    (c6 .put-string .ensures)
+    (c5 .put-system .ensures)
+    (c4 .put-devices .ensures)
+    (c3 .put-link .ensures)
+    (c2 .put-extension .ensures)
+    (c1 .put-list .ensures)
 
 pub put-fields-spec : {M : Type 1} → statement M
 put-fields-spec =
@@ -44,6 +54,7 @@ put-fields-spec =
     put-system-requires
     put-devices-requires
     put-link-requires
+    put-extension-requires
     put-list-requires
     same-length
     returns)

@@ -7,7 +7,7 @@ use mathlib.Core.Path.{sym, ap, _∙_}
 use denote.Ref.{now}
 use borrow.Author.Needs.{needs}
 use Rattle.output.proofs.OutputLaws.{puts-none, puts-same}
-use Rattle.reading.specs.Meaning.{listMeant}
+use Rattle.text.specs.Part.{optionalText}
 use Rattle.tlvs.specs.Tlvs.{octetsOf, ifListed, countableList}
 use Rattle.announcement.proofs.PutLaws.{absent-list}
 use Rattle.announcement.proofs.put_list.Statement.{statement}
@@ -41,7 +41,7 @@ returns-2 c =
     let c4 = c3 .before .before .before .before in
     let s = now (c4 .args .text) in
     puts-same _ (c1 .put-listed .ensures)
-    (ap (λ (x : List ℕ). octetsOf (ifListed (countableList (some x)))) (c2 .text-of .ensures) ∙ ap (λ l. octetsOf (ifListed (countableList (listMeant s l)))) (sym (c3 .l .given .1)))
+    (ap (λ (x : List ℕ). octetsOf (ifListed (countableList (some x)))) (c2 .text-of .ensures) ∙ ap (λ l. octetsOf (ifListed (countableList (optionalText s l)))) (sym (c3 .l .given .1)))
 
 pub put-list-spec : {M : Type 1} → statement M
 put-list-spec =

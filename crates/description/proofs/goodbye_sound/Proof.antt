@@ -1,4 +1,4 @@
--- `description::goodbye_sound` meets its contract: eight absences, front to back.
+-- `description::goodbye_sound` meets its contract: nine absences, front to back.
 -- One test that fails decides (all-fails of TestsLaws); where all pass, the last return cites them.
 use mathlib.Core.Path.{sym, _∙_}
 use denote.Ref.{now}
@@ -7,7 +7,7 @@ use borrow.Author.Needs.{needs}
 use Rattle.tally.proofs.TestsLaws.{all-fails, both-end}
 use Rattle.description.specs.Rules.{goodbyeRules}
 use Rattle.reading.specs.Meaning.{saidBy}
-use Rattle.description.proofs.RulesLaws.{no-link-same, no-list-same}
+use Rattle.description.proofs.RulesLaws.{no-link-same, no-octets-same}
 use Rattle.description.proofs.goodbye_sound.Statement.{statement}
 use Rattle.description.proofs.goodbye_sound.Tie as tie
 
@@ -50,48 +50,54 @@ returns-6 c =
     let d = c .before .before .before .before .before .before .before .before .before .before .before .before .before .args .d in
     sym (all-fails (goodbyeRules (saidBy s d)) 5 (sym (no-link-same s (d .link)) ∙ sym (c .before .no-link .ensures) ∙ not-true _ (c .if6 .taken)))
 
-no-list-requires : tie.Need-no-list-requires
-no-list-requires c κs = search needs
+no-octets-requires : tie.Need-no-octets-requires
+no-octets-requires c κs = search needs
 
 returns-7 : tie.Need-returns-7
 returns-7 c =
     let s = now (c .before .before .before .before .before .before .before .before .before .before .before .before .before .before .before .args .text) in
     let d = c .before .before .before .before .before .before .before .before .before .before .before .before .before .before .before .args .d in
-    sym (all-fails (goodbyeRules (saidBy s d)) 6 (sym (no-list-same s (d .list)) ∙ sym (c .before .no-list .ensures) ∙ not-true _ (c .if7 .taken)))
+    sym (all-fails (goodbyeRules (saidBy s d)) 6 (sym (no-octets-same s (d .extension)) ∙ sym (c .before .no-octets .ensures) ∙ not-true _ (c .if7 .taken)))
+
+no-octets-requires-2 : tie.Need-no-octets-requires-2
+no-octets-requires-2 c κs = search needs
+
+returns-8 : tie.Need-returns-8
+returns-8 c =
+    let s = now (c .before .before .before .before .before .before .before .before .before .before .before .before .before .before .before .before .before .args .text) in
+    let d = c .before .before .before .before .before .before .before .before .before .before .before .before .before .before .before .before .before .args .d in
+    sym (all-fails (goodbyeRules (saidBy s d)) 7 (sym (no-octets-same s (d .list)) ∙ sym (c .before .no-octets2 .ensures) ∙ not-true _ (c .if8 .taken)))
 
 system-absent-requires : tie.Need-system-absent-requires
 system-absent-requires c κs = search needs
 
-returns-8 : tie.Need-returns-8
-returns-8 c =
-    let c1 = c .before .before in
-    let c2 = c1 .before in
-    let c3 = c2 .before in
-    let c4 = c3 .before in
-    let c5 = c4 .before in
-    let c6 = c5 .before in
-    let c7 = c6 .before in
-    let c8 = c7 .before in
-    let c9 = c8 .before in
-    let c10 = c9 .before in
-    let c11 = c10 .before in
-    let c12 = c11 .before in
-    let c13 = c12 .before in
-    let c14 = c13 .before in
-    let c15 = c14 .before .before in
+returns-9 : tie.Need-returns-9
+returns-9 c =
+    let c8 = c .before .before in
+    let c7 = c8 .before .before in
+    let c6 = c7 .before .before in
+    let c5 = c6 .before .before in
+    let c4 = c5 .before .before in
+    let c3 = c4 .before .before in
+    let c2 = c3 .before .before in
+    let c1 = c2 .before .before in
+    let start = c1 .before .before .before in
+    let s = now (start .args .text) in
+    let d = start .args .d in
     rw (
-      ← c14 .count-of .ensures,
-      ← c12 .count-of2 .ensures,
-      ← c10 .count-of3 .ensures,
-      ← c8 .count-of4 .ensures,
-      ← c6 .count-of5 .ensures,
-      eq-eqb (c14 .count-of .result) 0 (c13 .if1 .left),
-      eq-eqb (c12 .count-of2 .result) 0 (c11 .if2 .left),
-      eq-eqb (c10 .count-of3 .result) 0 (c9 .if3 .left),
-      eq-eqb (c8 .count-of4 .result) 0 (c7 .if4 .left),
-      eq-eqb (c6 .count-of5 .result) 0 (c5 .if5 .left),
-      sym (no-link-same (now (c15 .args .text)) (c15 .args .d .link)) ∙ sym (c4 .no-link .ensures) ∙ not-false (c4 .no-link .result) (c3 .if6 .left),
-      sym (no-list-same (now (c15 .args .text)) (c15 .args .d .list)) ∙ sym (c2 .no-list .ensures) ∙ not-false (c2 .no-list .result) (c1 .if7 .left),
+      ← c1 .before .count-of .ensures,
+      ← c2 .before .count-of2 .ensures,
+      ← c3 .before .count-of3 .ensures,
+      ← c4 .before .count-of4 .ensures,
+      ← c5 .before .count-of5 .ensures,
+      eq-eqb (c1 .before .count-of .result) 0 (c1 .if1 .left),
+      eq-eqb (c2 .before .count-of2 .result) 0 (c2 .if2 .left),
+      eq-eqb (c3 .before .count-of3 .result) 0 (c3 .if3 .left),
+      eq-eqb (c4 .before .count-of4 .result) 0 (c4 .if4 .left),
+      eq-eqb (c5 .before .count-of5 .result) 0 (c5 .if5 .left),
+      sym (no-link-same s (d .link)) ∙ sym (c6 .before .no-link .ensures) ∙ not-false _ (c6 .if6 .left),
+      sym (no-octets-same s (d .extension)) ∙ sym (c7 .before .no-octets .ensures) ∙ not-false _ (c7 .if7 .left),
+      sym (no-octets-same s (d .list)) ∙ sym (c8 .before .no-octets2 .ensures) ∙ not-false _ (c8 .if8 .left),
     )
     (c .system-absent .ensures ∙ sym (both-end _))
 
@@ -111,7 +117,9 @@ goodbye-sound-spec =
     returns-5
     no-link-requires
     returns-6
-    no-list-requires
+    no-octets-requires
     returns-7
+    no-octets-requires-2
+    returns-8
     system-absent-requires
-    returns-8)
+    returns-9)

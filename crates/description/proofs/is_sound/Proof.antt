@@ -73,28 +73,36 @@ returns-5 : tie.Need-returns-5
 unfolding soundOf
 returns-5 c = sym (all-fails (asked (c .before .before .before .before .before .before .before .before .before .before .before .before .before .before .before .before)) 4 (sym (c .before .link-sound .ensures) ∙ not-true _ (c .if5 .taken)))
 
-list-sound-requires : tie.Need-list-sound-requires
-list-sound-requires c κs = search needs
+extension-sound-requires : tie.Need-extension-sound-requires
+extension-sound-requires c κs = search needs
 
 returns-6 : tie.Need-returns-6
 unfolding soundOf
-returns-6 c = sym (all-fails (asked (c .before .before .before .before .before .before .before .before .before .before .before .before .before .before .before .before .before .before)) 5 (sym (c .before .list-sound .ensures) ∙ not-true _ (c .if6 .taken)))
+returns-6 c = sym (all-fails (asked (c .before .before .before .before .before .before .before .before .before .before .before .before .before .before .before .before .before .before)) 5 (sym (c .before .extension-sound .ensures) ∙ not-true _ (c .if6 .taken)))
+
+list-sound-requires : tie.Need-list-sound-requires
+list-sound-requires c κs = search needs
+
+returns-7 : tie.Need-returns-7
+unfolding soundOf
+returns-7 c = sym (all-fails (asked (c .before .before .before .before .before .before .before .before .before .before .before .before .before .before .before .before .before .before .before .before)) 6 (sym (c .before .list-sound .ensures) ∙ not-true _ (c .if7 .taken)))
 
 system-fits-requires : tie.Need-system-fits-requires
 system-fits-requires c κs = search needs
 
-returns-7 : tie.Need-returns-7
+returns-8 : tie.Need-returns-8
 unfolding soundOf
-returns-7 c = sym (all-fails (asked (c .before .before .before .before .before .before .before .before .before .before .before .before .before .before .before .before .before .before .before .before .before)) 6 (sym (c .before .system-fits .ensures) ∙ not-true _ (c .if7 .taken)))
+returns-8 c = sym (all-fails (asked (c .before .before .before .before .before .before .before .before .before .before .before .before .before .before .before .before .before .before .before .before .before .before .before)) 7 (sym (c .before .system-fits .ensures) ∙ not-true _ (c .if8 .taken)))
 
 is-timely-requires : tie.Need-is-timely-requires
 is-timely-requires c κs = search needs
 
-returns-8 : tie.Need-returns-8
+returns-9 : tie.Need-returns-9
 unfolding soundOf
-returns-8 c =
-    let c7 = c .before in
-    let c6 = c7 .before .before .before in
+returns-9 c =
+    let c8 = c .before in
+    let c7 = c8 .before .before .before in
+    let c6 = c7 .before .before in
     let c5 = c6 .before .before in
     let c4 = c5 .before .before in
     let c3 = c4 .before .before in
@@ -106,8 +114,9 @@ returns-8 c =
       words-told (c3 .before) ∙ not-false _ (c3 .if3 .left),
       sym (c4 .before .strings-sound .ensures) ∙ not-false _ (c4 .if4 .left),
       sym (c5 .before .link-sound .ensures) ∙ not-false _ (c5 .if5 .left),
-      sym (c6 .before .list-sound .ensures) ∙ not-false _ (c6 .if6 .left),
-      sym (c7 .before .system-fits .ensures) ∙ not-false _ (c7 .if7 .left),
+      sym (c6 .before .extension-sound .ensures) ∙ not-false _ (c6 .if6 .left),
+      sym (c7 .before .list-sound .ensures) ∙ not-false _ (c7 .if7 .left),
+      sym (c8 .before .system-fits .ensures) ∙ not-false _ (c8 .if8 .left),
     )
     (c .is-timely .ensures ∙ sym (both-end _))
 
@@ -128,9 +137,11 @@ is-sound-spec =
     returns-4
     link-sound-requires
     returns-5
-    list-sound-requires
+    extension-sound-requires
     returns-6
-    system-fits-requires
+    list-sound-requires
     returns-7
+    system-fits-requires
+    returns-8
     is-timely-requires
-    returns-8)
+    returns-9)

@@ -10,20 +10,20 @@ use Rattle.fields.proofs.field_of.Tie as tie
 description-requires : tie.Need-description-requires
 description-requires c κs = search needs
 
-system-field-requires : tie.Need-system-field-requires
-system-field-requires c κs = search needs
+says-if-requires : tie.Need-says-if-requires
+says-if-requires c κs = search needs
 
-system-field-requires-2 : tie.Need-system-field-requires-2
-system-field-requires-2 c κs = search needs
+says-if-requires-2 : tie.Need-says-if-requires-2
+says-if-requires-2 c κs = search needs
 
-system-field-requires-3 : tie.Need-system-field-requires-3
-system-field-requires-3 c κs = search needs
+says-if-requires-3 : tie.Need-says-if-requires-3
+says-if-requires-3 c κs = search needs
 
 management-fits-requires : tie.Need-management-fits-requires
 management-fits-requires c κs = search needs
 
-system-field-requires-4 : tie.Need-system-field-requires-4
-system-field-requires-4 c κs = search needs
+says-if-requires-4 : tie.Need-says-if-requires-4
+says-if-requires-4 c κs = search needs
 
 is-ttc-requires : tie.Need-is-ttc-requires
 is-ttc-requires c κs = search needs
@@ -37,19 +37,19 @@ returns c = rw (c .before .match .keys1) (c .description .ensures)
 
 returns-2 : tie.Need-returns-2
 unfolding fieldOf
-returns-2 c = rw (c .before .match .keys2) (c .system-field .ensures)
+returns-2 c = rw (c .before .match .keys2) (c .says-if .ensures)
 
 returns-3 : tie.Need-returns-3
 unfolding fieldOf
-returns-3 c = rw (c .before .match .keys3) (c .system-field2 .ensures)
+returns-3 c = rw (c .before .match .keys3) (c .says-if2 .ensures)
 
 returns-4 : tie.Need-returns-4
 unfolding fieldOf
-returns-4 c = rw (c .before .match .keys4) (c .system-field3 .ensures)
+returns-4 c = rw (c .before .match .keys4) (c .says-if3 .ensures)
 
 returns-5 : tie.Need-returns-5
 unfolding fieldOf managementOf
-returns-5 c = rw (c .before .before .match .keys5, ← c .before .management-fits .ensures) (c .system-field4 .ensures)
+returns-5 c = rw (c .before .before .match .keys5, ← c .before .management-fits .ensures) (c .says-if4 .ensures)
 
 returns-6 : tie.Need-returns-6
 unfolding fieldOf
@@ -77,11 +77,11 @@ field-of-spec =
     tie.close
     (tie.spec
     description-requires
-    system-field-requires
-    system-field-requires-2
-    system-field-requires-3
+    says-if-requires
+    says-if-requires-2
+    says-if-requires-3
     management-fits-requires
-    system-field-requires-4
+    says-if-requires-4
     is-ttc-requires
     ttc-requires
     returns

@@ -18,6 +18,9 @@ link-requires c κs = search needs
 address-list-requires : tie.Need-address-list-requires
 address-list-requires c κs = search needs
 
+extension-requires : tie.Need-extension-requires
+extension-requires c κs = search needs
+
 returns : tie.Need-returns
 unfolding ttcOf
 returns c = rw (← c .before .before .octet .ensures, c .before .match .keys1) (c .device .ensures)
@@ -32,7 +35,13 @@ returns-3 c = rw (← c .before .before .octet .ensures, c .before .match .keys3
 
 returns-4 : tie.Need-returns-4
 unfolding ttcOf
-returns-4 c = rw (← c .before .octet .ensures, ne-eqb _ _ (c .match .rest .0 .0 .1), ne-eqb _ _ (c .match .rest .0 .1), ne-eqb _ _ (c .match .rest .1))
+returns-4 c = rw (← c .before .before .octet .ensures, c .before .match .keys4) (c .extension .ensures)
+
+returns-5 : tie.Need-returns-5
+unfolding ttcOf
+returns-5 c =
+    let r = c .match .rest in
+    rw (← c .before .octet .ensures, ne-eqb _ _ (r .0 .0 .0 .1), ne-eqb _ _ (r .0 .0 .1), ne-eqb _ _ (r .0 .1), ne-eqb _ _ (r .1))
 
 pub ttc-spec : {M : Type 1} → statement M
 ttc-spec =
@@ -42,7 +51,9 @@ ttc-spec =
     device-requires
     link-requires
     address-list-requires
+    extension-requires
     returns
     returns-2
     returns-3
-    returns-4)
+    returns-4
+    returns-5)

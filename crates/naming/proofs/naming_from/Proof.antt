@@ -1,5 +1,5 @@
 -- `naming::naming_from` meets its contract: the first hit from here is the first hit of the whole walk.
--- The laws are naming-hit, naming-miss and naming-other of NamingLaws.
+-- The laws are naming-hit and naming-miss of NamingLaws.
 use Prim.Native.Nat.{_-_}
 use mathlib.Core.Path.{_≡_, refl, sym, _∙_}
 use native.Mathlib.Omega.{arith}
@@ -10,7 +10,7 @@ use Rattle.octets.proofs.PartLaws.{part-is}
 use Rattle.naming.specs.Naming.{firstNaming}
 use Rattle.walk.specs.Walk.{walk}
 use Rattle.walk.proofs.WalkLaws.{next-fits, next-on}
-use Rattle.naming.proofs.NamingLaws.{link-numbered, naming-refused, naming-end, naming-hit, naming-other, naming-miss}
+use Rattle.naming.proofs.NamingLaws.{sees-numbered, naming-refused, naming-end, naming-hit, naming-miss}
 use Rattle.naming.proofs.naming_from.Statement.{statement}
 use Rattle.naming.proofs.naming_from.Tie as tie
 
@@ -53,46 +53,31 @@ part-part-start c = omega arith
 part-part-end : tie.Need-part-part-end Inv-loop μ-loop
 part-part-end c = omega (arith, next-fits (now (c .before .before .before .before .before .before .args .s)) (c .before .before .before .before .loop .at) (sym (c .before .before .before .step-at .ensures) ∙ c .before .kind .given .1))
 
-is-link-requires : tie.Need-is-link-requires Inv-loop μ-loop
-is-link-requires c κs = search needs
-
-names-requires : tie.Need-names-requires Inv-loop μ-loop
-names-requires c κs = search needs
+sees-requires : tie.Need-sees-requires Inv-loop μ-loop
+sees-requires c κs = search needs
 
 numbers-of-requires : tie.Need-numbers-of-requires Inv-loop μ-loop
-numbers-of-requires c κs = link-numbered (c .before .before .before .before .before .before .kind .given .0 .0) _ (sym (c .before .before .before .is-link .ensures) ∙ c .before .before .if1 .taken)
+numbers-of-requires c κs = sees-numbered (c .before .before .before .before .kind .given .0 .0) _ (c .before .before .before .before .before .before .before .before .before .args .address) (sym (c .before .sees .ensures) ∙ c .if1 .taken)
 
 returns-3 : tie.Need-returns-3 Inv-loop μ-loop
 returns-3 c =
-    let s = now (c .before .before .before .before .before .before .before .before .before .before .before .before .args .s) in
-    let e = sym (c .before .before .before .before .before .before .before .before .before .step-at .ensures) ∙ c .before .before .before .before .before .before .before .kind .given .1 in
-    let p = part-is s (c .before .before .before .before .before .before .before .kind .given .0 .1 .0) (c .before .before .before .before .before .before .before .kind .given .0 .1 .1 .0) in
+    let s = now (c .before .before .before .before .before .before .before .before .before .before .args .s) in
+    let e = sym (c .before .before .before .before .before .before .before .step-at .ensures) ∙ c .before .before .before .before .before .kind .given .1 in
+    let p = part-is s (c .before .before .before .before .before .kind .given .0 .1 .0) (c .before .before .before .before .before .kind .given .0 .1 .1 .0) in
     c .numbers-of .ensures
-    ∙ sym (sym (c .before .before .before .before .before .before .before .before .before .before .loop .inv) ∙ naming-hit s (c .before .before .before .before .before .before .before .before .before .before .loop .at) (c .before .before .before .before .before .before .before .before .before .before .before .before .args .address) e p (sym (c .before .before .before .before .is-link .ensures) ∙ c .before .before .before .if1 .taken) (sym (c .before .before .names .ensures) ∙ c .before .if2 .taken))
+    ∙ sym (sym (c .before .before .before .before .before .before .before .before .loop .inv) ∙ naming-hit s (c .before .before .before .before .before .before .before .before .loop .at) (c .before .before .before .before .before .before .before .before .before .before .args .address) e p (sym (c .before .before .sees .ensures) ∙ c .before .if1 .taken))
 
 loop-less : tie.Need-loop-less Inv-loop μ-loop
 loop-less c =
-    let e = sym (c .before .before .before .before .before .before .before .before .step-at .ensures) ∙ c .before .before .before .before .before .before .kind .given .1 in
-    omega (arith, next-fits (now (c .before .before .before .before .before .before .before .before .before .before .before .args .s)) (c .before .before .before .before .before .before .before .before .before .loop .at) e, next-on (now (c .before .before .before .before .before .before .before .before .before .before .before .args .s)) (c .before .before .before .before .before .before .before .before .before .loop .at) e)
-
-loop-again : tie.Need-loop-again Inv-loop μ-loop
-loop-again c =
-    let s = now (c .before .before .before .before .before .before .before .before .before .before .before .args .s) in
-    let e = sym (c .before .before .before .before .before .before .before .before .step-at .ensures) ∙ c .before .before .before .before .before .before .kind .given .1 in
-    let p = part-is s (c .before .before .before .before .before .before .kind .given .0 .1 .0) (c .before .before .before .before .before .before .kind .given .0 .1 .1 .0) in
-    sym (naming-miss s (c .before .before .before .before .before .before .before .before .before .loop .at) (c .before .before .before .before .before .before .before .before .before .before .before .args .address) e p (sym (c .before .before .before .is-link .ensures) ∙ c .before .before .if1 .taken) (sym (c .before .names .ensures) ∙ c .if2 .left)) ∙ c .before .before .before .before .before .before .before .before .before .loop .inv
-
-loop-less-2 : tie.Need-loop-less-2 Inv-loop μ-loop
-loop-less-2 c =
     let e = sym (c .before .before .before .before .before .before .step-at .ensures) ∙ c .before .before .before .before .kind .given .1 in
     omega (arith, next-fits (now (c .before .before .before .before .before .before .before .before .before .args .s)) (c .before .before .before .before .before .before .before .loop .at) e, next-on (now (c .before .before .before .before .before .before .before .before .before .args .s)) (c .before .before .before .before .before .before .before .loop .at) e)
 
-loop-again-2 : tie.Need-loop-again-2 Inv-loop μ-loop
-loop-again-2 c =
+loop-again : tie.Need-loop-again Inv-loop μ-loop
+loop-again c =
     let s = now (c .before .before .before .before .before .before .before .before .before .args .s) in
     let e = sym (c .before .before .before .before .before .before .step-at .ensures) ∙ c .before .before .before .before .kind .given .1 in
     let p = part-is s (c .before .before .before .before .kind .given .0 .1 .0) (c .before .before .before .before .kind .given .0 .1 .1 .0) in
-    sym (naming-other s (c .before .before .before .before .before .before .before .loop .at) (c .before .before .before .before .before .before .before .before .before .args .address) e p (sym (c .before .is-link .ensures) ∙ c .if1 .left)) ∙ c .before .before .before .before .before .before .before .loop .inv
+    sym (naming-miss s (c .before .before .before .before .before .before .before .loop .at) (c .before .before .before .before .before .before .before .before .before .args .address) e p (sym (c .before .sees .ensures) ∙ c .if1 .left)) ∙ c .before .before .before .before .before .before .before .loop .inv
 
 pub naming-from-spec : {M : Type 1} → statement M
 naming-from-spec =
@@ -111,11 +96,8 @@ naming-from-spec =
     sub-part
     part-part-start
     part-part-end
-    is-link-requires
-    names-requires
+    sees-requires
     numbers-of-requires
     returns-3
     loop-less
-    loop-again
-    loop-less-2
-    loop-again-2)
+    loop-again)

@@ -1,4 +1,4 @@
--- `parts::all_inside` meets its contract: ten tests, front to back.
+-- `parts::all_inside` meets its contract: eleven tests, front to back.
 -- One test that fails decides (all-fails of TestsLaws); where all pass, the last return cites them.
 use mathlib.Core.List.{List}
 use mathlib.Core.Bool.{Bool}
@@ -70,20 +70,28 @@ returns-8 : tie.Need-returns-8
 unfolding allInside
 returns-8 c = sym (all-fails (asked (c .before .before .before .before .before .before .before .before .before .before .before .before .before .before .before .before .before .before)) 7 (sym (c .before .link-inside .ensures) ∙ not-true _ (c .if8 .taken)))
 
-list-inside-requires : tie.Need-list-inside-requires
-list-inside-requires c κs = search needs
+optional-inside-requires : tie.Need-optional-inside-requires
+optional-inside-requires c κs = search needs
 
 returns-9 : tie.Need-returns-9
 unfolding allInside
-returns-9 c = sym (all-fails (asked (c .before .before .before .before .before .before .before .before .before .before .before .before .before .before .before .before .before .before .before .before)) 8 (sym (c .before .list-inside .ensures) ∙ not-true _ (c .if9 .taken)))
+returns-9 c = sym (all-fails (asked (c .before .before .before .before .before .before .before .before .before .before .before .before .before .before .before .before .before .before .before .before)) 8 (sym (c .before .optional-inside .ensures) ∙ not-true _ (c .if9 .taken)))
+
+optional-inside-requires-2 : tie.Need-optional-inside-requires-2
+optional-inside-requires-2 c κs = search needs
+
+returns-10 : tie.Need-returns-10
+unfolding allInside
+returns-10 c = sym (all-fails (asked (c .before .before .before .before .before .before .before .before .before .before .before .before .before .before .before .before .before .before .before .before .before .before)) 9 (sym (c .before .optional-inside2 .ensures) ∙ not-true _ (c .if10 .taken)))
 
 system-inside-requires : tie.Need-system-inside-requires
 system-inside-requires c κs = search needs
 
-returns-10 : tie.Need-returns-10
+returns-11 : tie.Need-returns-11
 unfolding allInside
-returns-10 c =
-    let c9 = c .before .before in
+returns-11 c =
+    let c10 = c .before .before in
+    let c9 = c10 .before .before in
     let c8 = c9 .before .before in
     let c7 = c8 .before .before in
     let c6 = c7 .before .before in
@@ -101,7 +109,8 @@ returns-10 c =
       sym (c6 .before .part-inside6 .ensures) ∙ not-false _ (c6 .if6 .left),
       sym (c7 .before .part-inside7 .ensures) ∙ not-false _ (c7 .if7 .left),
       sym (c8 .before .link-inside .ensures) ∙ not-false _ (c8 .if8 .left),
-      sym (c9 .before .list-inside .ensures) ∙ not-false _ (c9 .if9 .left),
+      sym (c9 .before .optional-inside .ensures) ∙ not-false _ (c9 .if9 .left),
+      sym (c10 .before .optional-inside2 .ensures) ∙ not-false _ (c10 .if10 .left),
     )
     (c .system-inside .ensures ∙ sym (both-end _))
 
@@ -125,7 +134,9 @@ all-inside-spec =
     returns-7
     link-inside-requires
     returns-8
-    list-inside-requires
+    optional-inside-requires
     returns-9
+    optional-inside-requires-2
+    returns-10
     system-inside-requires
-    returns-10)
+    returns-11)

@@ -41,11 +41,17 @@ element-copy-out-link-at c = search needs
 link-at-requires : tie.Need-link-at-requires
 link-at-requires c κs = search needs
 
-element-copy-out-list-at : tie.Need-element-copy-out-list-at
-element-copy-out-list-at c = search needs
+element-copy-out-optional-at : tie.Need-element-copy-out-optional-at
+element-copy-out-optional-at c = search needs
 
-list-at-requires : tie.Need-list-at-requires
-list-at-requires c κs = search needs
+optional-at-requires : tie.Need-optional-at-requires
+optional-at-requires c κs = search needs
+
+element-copy-out-optional-at-2 : tie.Need-element-copy-out-optional-at-2
+element-copy-out-optional-at-2 c = search needs
+
+optional-at-requires-2 : tie.Need-optional-at-requires-2
+optional-at-requires-2 c κs = search needs
 
 system-at-requires : tie.Need-system-at-requires
 system-at-requires c κs = search needs
@@ -53,13 +59,14 @@ system-at-requires c κs = search needs
 returns : tie.Need-returns
 returns c =
     rw (
-      c .before .before .before .before .before .before .before .before .before .before .before .before .before .part-at .ensures,
-      c .before .before .before .before .before .before .before .before .before .before .before .part-at2 .ensures,
-      c .before .before .before .before .before .before .before .before .before .part-at3 .ensures,
-      c .before .before .before .before .before .before .before .part-at4 .ensures,
-      c .before .before .before .before .before .part-at5 .ensures,
-      c .before .before .before .link-at .ensures,
-      c .before .list-at .ensures,
+      c .before .before .before .before .before .before .before .before .before .before .before .before .before .before .before .part-at .ensures,
+      c .before .before .before .before .before .before .before .before .before .before .before .before .before .part-at2 .ensures,
+      c .before .before .before .before .before .before .before .before .before .before .before .part-at3 .ensures,
+      c .before .before .before .before .before .before .before .before .before .part-at4 .ensures,
+      c .before .before .before .before .before .before .before .part-at5 .ensures,
+      c .before .before .before .before .before .link-at .ensures,
+      c .before .before .before .optional-at .ensures,
+      c .before .optional-at2 .ensures,
       c .system-at .ensures,
     )
     refl
@@ -80,7 +87,9 @@ description-at-spec =
     part-at-requires-5
     element-copy-out-link-at
     link-at-requires
-    element-copy-out-list-at
-    list-at-requires
+    element-copy-out-optional-at
+    optional-at-requires
+    element-copy-out-optional-at-2
+    optional-at-requires-2
     system-at-requires
     returns)
