@@ -7,14 +7,14 @@ use Rattle.system.specs.System.{SystemInfo}
 use Rattle.reading.specs.Meaning.{Said}
 use Rattle.tlvs.specs.Tlvs.{octetsOf, chassisTlv, portTlv, secondsTlv, endTlv, wordsTlv, nameTlv, systemDescriptionTlv, managementTlv, deviceTlv, unlessEmpty, ifFlagged, ifLinked, ifExtended, ifListed, countable, countableLink, countableList}
 
--- the system fields, in order of type
+-- the system fields, in order of type (S1 to S3)
 unfoldable pub systemTlvs : SystemInfo → List Tlv
 systemTlvs x =
     unlessEmpty nameTlv (x .name)
     ++ (unlessEmpty systemDescriptionTlv (x .description)
     ++ (ifFlagged (x .capabilities) ++ map managementTlv (x .management)))
 
--- IDs 1 to 4
+-- IDs 1 to 4 (T3)
 unfoldable pub deviceTlvs : Said → List Tlv
 deviceTlvs d =
     unlessEmpty (deviceTlv 1) (d .category)

@@ -9,7 +9,7 @@ use native.Mathlib.Omega.{arith}
 use borrow.Author.Tests.{leb-true, leb-false, eqb-true, le-leb, lt-leb}
 use lib.ListN.{length}
 use lib.Dec.{leb, eqb}
-use Rattle.tally.specs.Tests.{pick, all}
+use Rattle.tally.specs.Tests.{pick, all, isNone}
 use Rattle.tally.proofs.TestsLaws.{both-true, held}
 use Rattle.strings.specs.Text.{textOk}
 use Rattle.ids.specs.Id.{chassisOk, portOk}
@@ -27,7 +27,7 @@ use Rattle.reading.specs.declared.Link.the-variants as link-is
 use Rattle.reading.specs.declared.LinkParts.{LinkParts}
 use Rattle.text.specs.declared.Optional.{Optional}
 use Rattle.text.specs.declared.Optional.the-variants as optional-is
-use Rattle.description.specs.Rules.{wordsSound, stringRules, tableRules, tableSound, linkSound, contentSound, extensionSound, listedSound, listSound, noLink, noOctets, goodbyeRules, liveRules, rules, soundOf}
+use Rattle.description.specs.Rules.{wordsSound, stringRules, tableRules, tableSound, linkSound, contentSound, extensionSound, listedSound, listSound, goodbyeRules, liveRules, rules, soundOf}
 
 -- what is said by a description that keeps the rules
 pub record Kept (d : Said) : Type 0 where
@@ -105,15 +105,15 @@ listed a e =
     record { whole = eqb-true (a % 6) 0 (h .0); short = leb-true (5 + a) 511 (h .1) }
 
 -- whether link information or octets are there does not depend on the text
-pub no-link-same : (s : List ℕ) (l : Link) → noLink (linkMeant [] l) ≡ noLink (linkMeant s l)
+pub no-link-same : (s : List ℕ) (l : Link) → isNone (linkMeant [] l) ≡ isNone (linkMeant s l)
 no-link-same s link-is.Absent = refl
 no-link-same s (link-is.Table i p a) = refl
 
-pub no-link-there : (l : Link) {t : LinkParts} → t ≡ linkParts l → not (t .there) ≡ noLink (linkMeant [] l)
+pub no-link-there : (l : Link) {t : LinkParts} → t ≡ linkParts l → not (t .there) ≡ isNone (linkMeant [] l)
 no-link-there link-is.Absent e = ap (λ (x : LinkParts). not (x .there)) e
 no-link-there (link-is.Table i p a) e = ap (λ (x : LinkParts). not (x .there)) e
 
-pub no-octets-same : (s : List ℕ) (l : Optional) → noOctets (optionalText [] l) ≡ noOctets (optionalText s l)
+pub no-octets-same : (s : List ℕ) (l : Optional) → isNone (optionalText [] l) ≡ isNone (optionalText s l)
 no-octets-same s optional-is.Absent = refl
 no-octets-same s (optional-is.Present a) = refl
 
@@ -190,8 +190,8 @@ bareRules d more =
     ∷ eqb (length (d .manufacturer)) 0
     ∷ eqb (length (d .model)) 0
     ∷ eqb (length (d .number)) 0
-    ∷ noLink (d .link)
-    ∷ noOctets (d .list)
+    ∷ isNone (d .link)
+    ∷ isNone (d .list)
     ∷ more
 
 -- the rules of before there were system fields and extension link information, in their order, with more behind them

@@ -2,11 +2,11 @@
 -- The rules of the system fields stand in system/specs; that its parts lie inside the text is said in parts/specs.
 use Prim.Native.Nat.{ℕ, _+_, _%_}
 use mathlib.Core.List.{List, [], _∷_}
-use mathlib.Core.Bool.{Bool, true, false}
+use mathlib.Core.Bool.{Bool, true}
 use mathlib.Core.Option.{Option, none, some}
 use lib.ListN.{length}
 use lib.Dec.{leb, eqb}
-use Rattle.tally.specs.Tests.{pick, both, all}
+use Rattle.tally.specs.Tests.{pick, both, all, isNone}
 use Rattle.strings.specs.Text.{textOk}
 use Rattle.ids.specs.Id.{chassisOk, portOk}
 use Rattle.found.specs.Contents.{LinkInfo}
@@ -50,14 +50,6 @@ abbrev pub listSound : Option (List ℕ) → Bool
 listSound none = true
 listSound (some addresses) = listedSound (length addresses)
 
-abbrev pub noLink : Option LinkInfo → Bool
-noLink none = true
-noLink (some l) = false
-
-abbrev pub noOctets : Option (List ℕ) → Bool
-noOctets none = true
-noOctets (some octets) = false
-
 -- W3: with seconds 0 all but chassis and port ID is absent
 abbrev pub goodbyeRules : Said → List Bool
 goodbyeRules d =
@@ -66,9 +58,9 @@ goodbyeRules d =
     ∷ eqb (length (d .manufacturer)) 0
     ∷ eqb (length (d .model)) 0
     ∷ eqb (length (d .number)) 0
-    ∷ noLink (d .link)
-    ∷ noOctets (d .extension)
-    ∷ noOctets (d .list)
+    ∷ isNone (d .link)
+    ∷ isNone (d .extension)
+    ∷ isNone (d .list)
     ∷ all (absentRules (d .system))
     ∷ []
 

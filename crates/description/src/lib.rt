@@ -3,10 +3,10 @@
 ghost use mathlib.Core.Path.{_≡_};
 ghost use mathlib.Core.List.{[]};
 ghost use lib.ListN.{length};
-ghost use Rattle.tally.specs.Tests.{all};
+ghost use Rattle.tally.specs.Tests.{all, isNone};
 ghost use Rattle.text.specs.Part.{textOf, optionalText};
 ghost use Rattle.reading.specs.Meaning.{linkMeant, saidBy};
-ghost use Rattle.description.specs.Rules.{wordsSound, stringRules, tableSound, linkSound, contentSound, extensionSound, listedSound, listSound, noLink, noOctets, goodbyeRules, liveRules, timelyOf, soundOf};
+ghost use Rattle.description.specs.Rules.{wordsSound, stringRules, tableSound, linkSound, contentSound, extensionSound, listedSound, listSound, goodbyeRules, liveRules, timelyOf, soundOf};
 use extension::extension_fits;
 use fields::Field;
 use fields::field_of;
@@ -130,13 +130,13 @@ fn list_sound(text: &[u8], l: Optional) -> bool
 
 // Whether link information is there does not depend on a text.
 fn no_link(l: Link) -> bool
-    ensures { λ r. ⌜ r ≡ noLink (linkMeant [] l) ⌝ }
+    ensures { λ r. ⌜ r ≡ isNone (linkMeant [] l) ⌝ }
 {
     !link_parts(l).there
 }
 
 fn no_octets(o: Optional) -> bool
-    ensures { λ r. ⌜ r ≡ noOctets (optionalText [] o) ⌝ }
+    ensures { λ r. ⌜ r ≡ isNone (optionalText [] o) ⌝ }
 {
     match o {
         Optional::Absent => true,

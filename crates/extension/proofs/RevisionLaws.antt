@@ -11,7 +11,7 @@ use lib.ListN.{length, take, drop, getD, length-map}
 use lib.Seq.{length-take-le}
 use lib.Dec.{eqb}
 use Rattle.tally.specs.Tests.{all}
-use Rattle.tally.proofs.TestsLaws.{both-true}
+use Rattle.tally.proofs.TestsLaws.{both-true, both-hold}
 use Rattle.extension.specs.Layout.{itemSize, itemCount, portItemCount, portItemsFrom, widthOk, extensionOk}
 use Rattle.extension.specs.Table.{Entry, Table, itemIn, tableFrom, laid, entryOk, tableOk}
 use Rattle.extension.specs.Asked.{itemAt, portItemAt, tableOf, noEntry, itemOf, portItemOf}
@@ -20,7 +20,7 @@ use Rattle.links.specs.Link.{fourOk}
 use Rattle.extension.specs.Revision.{firstItems, entryWith, withItems, shown, cutTo, Begins, EntriesGrown, Grown}
 use Rattle.extension.proofs.RunLaws.{each-count}
 use Rattle.extension.proofs.AskedLaws.{item-answers, port-item-answers}
-use Rattle.extension.proofs.TableLaws.{and-true, table-has, laid-out, laid-read}
+use Rattle.extension.proofs.TableLaws.{table-has, laid-out, laid-read}
 
 -- The first items
 
@@ -146,14 +146,14 @@ pub grown-ok : (x y : Table) → tableOk x ≡ true → Grown x y → all (map (
 unfolding tableOk
 grown-ok x y ok grown counted =
     let h = table-has x ok in
-    and-true (ap (λ (l : List ℕ). fourOk (length l)) (sym (grown .interface)) ∙ h .type)
-    (and-true (ap (λ (l : List ℕ). fourOk (length l)) (sym (grown .port)) ∙ h .number)
-    (and-true
+    both-hold (ap (λ (l : List ℕ). fourOk (length l)) (sym (grown .interface)) ∙ h .type)
+    (both-hold (ap (λ (l : List ℕ). fourOk (length l)) (sym (grown .port)) ∙ h .number)
+    (both-hold
     (ap₂ (λ (w : ℕ) (l : List (List ℕ)). widthOk w (length (y .entries)) (length l)) (sym (grown .width)) (sym (grown .pairings))
     ∙ ap (λ (k : ℕ). widthOk (x .width) k (length (x .pairings))) (sym (as-many (x .entries) (y .entries) (grown .entries)))
     ∙ h .wide)
-    (and-true (keep (x .entries) (y .entries) (grown .entries) (h .entries) counted)
-    (and-true
+    (both-hold (keep (x .entries) (y .entries) (grown .entries) (h .entries) counted)
+    (both-hold
     (ap₂ (λ (w : ℕ) (l : List (List ℕ)). all (map (λ a. eqb (length a) w) l)) (sym (grown .width)) (sym (grown .pairings)) ∙ h .pairings)
     refl))))
   where
@@ -173,22 +173,22 @@ grown-ok x y ok grown counted =
         let u = both-true (eqb (length (v .address)) (x .width)) (eqb (length (v .items)) (x .itemCount)) (t .0) in
         let n = both-true (eqb (length (f .items)) (y .itemCount)) (all (map (λ e. eqb (length (e .items)) (y .itemCount)) fs)) c in
         let address : eqb (length (f .address)) (y .width) ≡ true = ap₂ (λ (l : List ℕ) (w : ℕ). eqb (length l) w) (sym (g .0)) (sym (grown .width)) ∙ u .0 in
-        and-true (and-true address (n .0)) (keep es fs (g .1 .1) (t .1) (n .1))
+        both-hold (both-hold address (n .0)) (keep es fs (g .1 .1) (t .1) (n .1))
 
 begins-cut : (c : ℕ) (xs : List (List ℕ)) → Begins (take c xs) xs
 begins-cut zero xs = refl
 begins-cut (suc c) [] = refl
 begins-cut (suc c) (x ∷ xs) = ap (λ (l : List (List ℕ)). x ∷ l) (begins-cut c xs)
 
-pub cut-grown : (c d : ℕ) (y : Table) → tableOk y ≡ true → c ≤ y .itemCount → d ≤ length (y .portItems)
+pub cut-grown : (c d : ℕ) (y : Table) → tableOk y ≡ true → c ≤ y .itemCount
     → (tableOk (cutTo c d y) ≡ true) × Grown (cutTo c d y) y
 unfolding tableOk
-cut-grown c d y ok a b =
+cut-grown c d y ok a =
     let h = table-has y ok in (
-      and-true (h .type)
-          (and-true (h .number)
-          (and-true (ap (λ (k : ℕ). widthOk (y .width) k (length (y .pairings))) (length-map (y .entries) (entryWith (take c))) ∙ h .wide)
-          (and-true (keep (y .entries) (h .entries)) (and-true (h .pairings) refl)))),
+      both-hold (h .type)
+          (both-hold (h .number)
+          (both-hold (ap (λ (k : ℕ). widthOk (y .width) k (length (y .pairings))) (length-map (y .entries) (entryWith (take c))) ∙ h .wide)
+          (both-hold (keep (y .entries) (h .entries)) (both-hold (h .pairings) refl)))),
       record {
         interface = refl;
         port = refl;
@@ -205,7 +205,7 @@ cut-grown c d y ok a b =
         let t = both-true (entryOk (y .width) (y .itemCount) v) (all (map (entryOk (y .width) (y .itemCount)) es)) e in
         let u = both-true (eqb (length (v .address)) (y .width)) (eqb (length (v .items)) (y .itemCount)) (t .0) in
         let many = length-take-le c (v .items) (omega (arith, a, eqb-true (length (v .items)) (y .itemCount) (u .1))) in
-        and-true (and-true (u .0) (eq-eqb (length (take c (v .items))) c many)) (keep es (t .1))
+        both-hold (both-hold (u .0) (eq-eqb (length (take c (v .items))) c many)) (keep es (t .1))
 
     grown : (es : List Entry) → EntriesGrown (map (entryWith (take c)) es) es
     grown [] = tt
@@ -228,7 +228,7 @@ as-if-cut u c d ok a b =
     let y = tableFrom u in
     let x = cutTo c d y in
     let few : d ≤ length (y .portItems) = omega (arith, b, port-items-count u) in
-    let cut = cut-grown c d y (laid-out u ok .1) a few in
+    let cut = cut-grown c d y (laid-out u ok .1) a in
     let back = laid-read x (cut .0) in (
       back .1,
       λ j h p q. grown-shown x y (cut .0) (cut .1) j h p (omega (arith, q, length-take-le d (y .portItems) few)) ∙ ap (shown j h) (sym (back .0)),

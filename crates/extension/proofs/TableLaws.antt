@@ -1,6 +1,6 @@
 -- Laws of the table (T11): a well formed content is the table that it says, laid out, and a table that table-has the layout is read back.
 -- `names-table` says the same of the addresses: a content names one exactly if it stands in the table (A4).
-use Prim.Native.Nat.{ℕ, zero, suc, _+_, _*_, _<_, _≤_}
+use Prim.Native.Nat.{ℕ, suc, _+_, _*_, _<_, _≤_}
 use mathlib.Core.Path.{_≡_, refl, sym, ap, ap₂, _∙_, subst}
 use mathlib.Core.List.{List, [], _∷_, _++_, map, map-id, append-nil, append-assoc}
 use mathlib.Core.Bool.{Bool, true, false}
@@ -10,20 +10,18 @@ use lib.ListN.{length, take, drop, getD, length-append, length-drop, take-append
 use lib.Seq.{drop-append-seam, getD-drop, take-at, drop-at, take-add, drop-drop, drop-cons, take-all, length-take-le}
 use lib.Dec.{eqb}
 use Rattle.tally.specs.Tests.{both, all}
-use Rattle.tally.proofs.TestsLaws.{both-true, held}
+use Rattle.tally.proofs.TestsLaws.{both-true, held, both-hold}
+use Rattle.tally.proofs.RangesLaws.{some-same}
 use Rattle.tally.specs.Ranges.{someBelow}
 use Rattle.octets.specs.Address.{sixAt, sameOctets}
 use Rattle.links.specs.Link.{typeCount, numberCount, fourOk}
 use Rattle.extension.specs.Runs.{span, each}
 use Rattle.extension.specs.Layout.{itemSize, itemPlace, entrySize, widthPlace, width, entryCount, itemCount, entriesFrom, entryPlace, portFrom, portItemCount, pairingCount, pairingsFrom, portItemsFrom, widthOk, endOk, extensionOk, extensionNames}
 use Rattle.extension.specs.Table.{Entry, Table, itemIn, itemsIn, entryIn, entriesIn, tableFrom, joined, itemLaid, itemsLaid, entryLaid, laid, entryOk, tableOk}
-use Rattle.extension.specs.Asked.{addressOf}
+use Rattle.extension.specs.Asked.{addressOf, tableNames}
 use Rattle.extension.proofs.AskedLaws.{entry-there}
 use Rattle.extension.proofs.RunLaws.{span-more, span-le, Back, span-joined, each-joined, joined-each, each-keeps, each-count, span-even}
 use Rattle.extension.proofs.LayoutLaws.{front-octet}
-
-pub and-true : {a b : Bool} → a ≡ true → b ≡ true → both a b ≡ true
-and-true p q = rw (p, q)
 
 -- Items
 
@@ -79,7 +77,7 @@ module _ (p c : ℕ) where
 
   entry-keeps : (l : List ℕ) → entrySize p c l ≤ length l → entryOk p c (entryIn p c l) ≡ true
   entry-keeps l h =
-      and-true (eq-eqb (length (take p l)) p (length-take-le p l (omega arith)))
+      both-hold (eq-eqb (length (take p l)) p (length-take-le p l (omega arith)))
       (eq-eqb (length (itemsIn c (drop p l))) c (each-count itemSize itemIn c (drop p l)))
 
   module _ (es : List Entry) (keep : all (map (entryOk p c) es) ≡ true) (rest : List ℕ) where
@@ -221,11 +219,11 @@ module _ (t : List ℕ) where
         let number = length-take-le m (drop (2 + n) t) (omega (arith, fit .end, length-drop (2 + n) t)) in
         let addresses = each-count (entrySize p c) (entryIn p c) (entryCount t) l in
         let pairings = each-count (λ x. p) (take p) (pairingCount t) r in
-        and-true (ap fourOk type ∙ fit .type)
-        (and-true (ap fourOk number ∙ fit .number)
-        (and-true (ap₂ (widthOk p) addresses pairings ∙ fit .wide)
-        (and-true (entries-keep p c (entryCount t) l (omega (arith, fit .end, length-drop (entriesFrom t) t)))
-        (and-true (pairings-keep p (pairingCount t) r (omega (arith, fit .end, length-drop (pairingsFrom t) t))) refl))))
+        both-hold (ap fourOk type ∙ fit .type)
+        (both-hold (ap fourOk number ∙ fit .number)
+        (both-hold (ap₂ (widthOk p) addresses pairings ∙ fit .wide)
+        (both-hold (entries-keep p c (entryCount t) l (omega (arith, fit .end, length-drop (entriesFrom t) t)))
+        (both-hold (pairings-keep p (pairingCount t) r (omega (arith, fit .end, length-drop (pairingsFrom t) t))) refl))))
 
 pub laid-out : (t : List ℕ) → extensionOk t ≡ true → (laid (tableFrom t) ≡ t) × (tableOk (tableFrom t) ≡ true)
 laid-out t ok = (all-there t (fits t ok), table-keeps t (fits t ok))
@@ -371,18 +369,13 @@ laid-read x ok =
     let start : Behind t 0 t = record { rest = refl; size = omega arith } in
     let h = table-has x ok in (
       table-back x t start (h .entries) (h .pairings),
-      and-true (ap fourOk (type-is x t start) ∙ h .type)
-          (and-true (ap fourOk (number-is x t start) ∙ h .number)
-          (and-true ((λ i. widthOk (width-is x t start i) (addresses-are x t start i) (pairings-are x t start (h .entries) i)) ∙ h .wide)
-          (and-true (eq-eqb (length t) (itemPlace t (portItemsFrom t) (portItemCount t)) (end-is x t start (h .entries) (h .pairings))) refl))),
+      both-hold (ap fourOk (type-is x t start) ∙ h .type)
+          (both-hold (ap fourOk (number-is x t start) ∙ h .number)
+          (both-hold ((λ i. widthOk (width-is x t start i) (addresses-are x t start i) (pairings-are x t start (h .entries) i)) ∙ h .wide)
+          (both-hold (eq-eqb (length t) (itemPlace t (portItemsFrom t) (portItemCount t)) (end-is x t start (h .entries) (h .pairings))) refl))),
     )
 
 -- The addresses that a content names
-
-some-same : (p r : ℕ → Bool) (n : ℕ) → ((i : ℕ) → i < n → p i ≡ r i) → someBelow p n ≡ someBelow r n
-unfolding someBelow
-some-same p r zero h = refl
-some-same p r (suc n) h = rw (some-same p r n (λ i b. h i (omega arith)), h n (omega arith))
 
 six-there : (t : List ℕ) (at : ℕ) → at + 6 ≤ length t → sixAt t at ≡ take 6 (drop at t)
 unfolding sixAt
@@ -404,7 +397,7 @@ address-there t ok six i h =
     ∙ sym (ap (λ (x : Entry). x .address) (entry-there t i h))
 
 pub names-table : (t a : List ℕ) → extensionOk t ≡ true
-    → extensionNames t a ≡ both (eqb (tableFrom t .width) 6) (someBelow (λ i. sameOctets (addressOf (tableFrom t) i) a) (length (tableFrom t .entries)))
+    → extensionNames t a ≡ tableNames (tableFrom t) a
 unfolding extensionNames
 names-table t a ok = go (eqb (width t) 6) refl
   where

@@ -3,9 +3,12 @@
 use Prim.Native.Nat.{ℕ, _+_}
 use mathlib.Core.Path.{_≡_}
 use mathlib.Core.List.{List, [], _∷_}
+use mathlib.Core.Bool.{Bool}
 use lib.ListN.{length, getD}
-use lib.Dec.{ltb}
+use lib.Dec.{ltb, eqb}
 use Rattle.tally.specs.Tests.{pick, both, all}
+use Rattle.tally.specs.Ranges.{someBelow}
+use Rattle.octets.specs.Address.{sameOctets}
 use Rattle.text.specs.Part.{part, nowhere, textOf}
 use Rattle.text.specs.declared.Part.{Part}
 use Rattle.links.specs.Link.{typeCount, numberCount}
@@ -83,6 +86,10 @@ pairingOf x i = getD (x .pairings) i []
 
 abbrev pub portItemOf : Table → ℕ → List ℕ
 portItemOf x j = getD (x .portItems) j []
+
+-- a table names a where that is one of its addresses, if they have six octets; pairing addresses are not looked at (A4)
+abbrev pub tableNames : Table → List ℕ → Bool
+tableNames x a = both (eqb (x .width) 6) (someBelow (λ i. sameOctets (addressOf x i) a) (length (x .entries)))
 
 -- The contract of an answer: the part is p and no other, and its octets are x
 pub record Answers (t : List ℕ) (p : Part) (x : List ℕ) (r : Part) : Type 0 where

@@ -63,7 +63,7 @@ pairingPlace t i = pairingsFrom t + i * width t
 abbrev pub portItemsFrom : List ℕ → ℕ
 portItemsFrom t = pairingPlace t (pairingCount t)
 
--- a length of 0 is no address
+-- a length of 0 is no address (T11)
 abbrev pub widthOk : ℕ → ℕ → ℕ → Bool
 widthOk p k q = either (leb 1 p) (both (eqb k 0) (eqb q 0))
 
@@ -71,6 +71,7 @@ widthOk p k q = either (leb 1 p) (both (eqb k 0) (eqb q 0))
 abbrev pub endOk : List ℕ → Bool
 endOk t = eqb (length t) (itemPlace t (portItemsFrom t) (portItemCount t))
 
+-- T11; that it says exactly the tables laid out is proved (specs/Table.antt)
 unfoldable pub extensionOk : List ℕ → Bool
 extensionOk t =
     all (fourOk (typeCount 0 t)

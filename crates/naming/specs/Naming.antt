@@ -14,7 +14,7 @@ use Rattle.octets.specs.Numbers.{valueOf}
 use Rattle.links.specs.Link.{typeCount, numberCount, addressCount, namesOf}
 use Rattle.extension.specs.Layout.{extensionNames}
 use Rattle.extension.specs.Table.{Table, tableFrom}
-use Rattle.extension.specs.Asked.{addressOf}
+use Rattle.extension.specs.Asked.{tableNames}
 use Rattle.fields.specs.Field.{link, extension, fieldOf}
 use Rattle.fields.specs.declared.Field.{Field}
 use Rattle.fields.specs.declared.Field.the-variants.{Skipped, Malformed, Says}
@@ -83,10 +83,7 @@ numbersFrom l = (numberIn (l .interface), numberIn (l .port))
 abbrev pub seenByLink : List ℕ → List ℕ → ℕ → ℕ → Option (Number × Number) → Option (Number × Number)
 seenByLink a c n m more = pick (namedIn c n m a) (some (numbersFrom (linkIn c n m))) more
 
--- x is what extension link information says; one of its addresses is a, if they have six octets
-abbrev pub tableNames : Table → List ℕ → Bool
-tableNames x a = both (eqb (x .width) 6) (ranges.someBelow (λ i. sameOctets (addressOf x i) a) (length (x .entries)))
-
+-- x is what extension link information says
 abbrev pub seenByTable : List ℕ → Table → Option (Number × Number) → Option (Number × Number)
 seenByTable a x more = pick (tableNames x a) (some (numberIn (x .interface), numberIn (x .port))) more
 

@@ -2,11 +2,11 @@
 -- `systemIn` is the one to believe; `systemAt` says it by places, as the code answers, and `systemMeant` what that means.
 use Prim.Native.Nat.{ℕ}
 use mathlib.Core.List.{List, [], _∷_, map}
-use mathlib.Core.Bool.{Bool, true, false}
+use mathlib.Core.Bool.{Bool}
 use mathlib.Core.Option.{Option, none, some}
 use lib.ListN.{length, take, getD}
 use lib.Dec.{leb, eqb}
-use Rattle.tally.specs.Tests.{pick, all}
+use Rattle.tally.specs.Tests.{pick, all, isNone}
 use Rattle.octets.specs.Numbers.{pairOf}
 use Rattle.text.specs.Part.{nowhere, textOf, mostParts, emptyParts, textsOf}
 use Rattle.text.specs.declared.Part.{Part}
@@ -82,14 +82,10 @@ systemRules x =
     ∷ managementSound (x .management)
     ∷ []
 
-abbrev pub noCapabilities : Option Flags → Bool
-noCapabilities none = true
-noCapabilities (some f) = false
-
 -- W3
 abbrev pub absentRules : SystemInfo → List Bool
 absentRules x =
-    eqb (length (x .name)) 0 ∷ eqb (length (x .description)) 0 ∷ noCapabilities (x .capabilities) ∷ eqb (length (x .management)) 0 ∷ []
+    eqb (length (x .name)) 0 ∷ eqb (length (x .description)) 0 ∷ isNone (x .capabilities) ∷ eqb (length (x .management)) 0 ∷ []
 
 -- By places, as the code answers: what was found, in the LLDPDU s
 

@@ -1,9 +1,9 @@
 // The system fields: system name, system description, capabilities and management addresses (S1 to S5).
 // How they are read of what was found in an LLDPDU, and whether those of a description keep the rules.
 ghost use mathlib.Core.Path.{_≡_};
-ghost use Rattle.tally.specs.Tests.{all};
+ghost use Rattle.tally.specs.Tests.{all, isNone};
 ghost use Rattle.text.specs.Part.{textsOf};
-ghost use Rattle.system.specs.System.{shortAt, capabilitiesIn, systemAt, emptySystem, systemMeant, flagsMeant, managementSound, systemRules, noCapabilities, absentRules};
+ghost use Rattle.system.specs.System.{shortAt, capabilitiesIn, systemAt, emptySystem, systemMeant, flagsMeant, managementSound, systemRules, absentRules};
 use fields::management_fits;
 use found::Found;
 use found::Mark;
@@ -110,7 +110,7 @@ pub fn system_fits(text: &[u8], x: System) -> bool
 }
 
 fn no_capabilities(c: Capabilities) -> bool
-    ensures { λ r. ⌜ r ≡ noCapabilities (flagsMeant c) ⌝ }
+    ensures { λ r. ⌜ r ≡ isNone (flagsMeant c) ⌝ }
 {
     match c {
         Capabilities::Absent => true,

@@ -84,3 +84,8 @@ module _ (p : ℕ → Bool) where
       go : (b : Bool) → eqb i n ≡ b → (i < n → p i ≡ true → someBelow p n ≡ true) → either (someBelow p n) (p n) ≡ true
       go true e ih = either-right (someBelow p n) (p n) (ap p (sym (eqb-true i n e)) ∙ t)
       go false e ih = rw (ih (omega (arith, eqb-false i n e)) t)
+
+pub some-same : (p r : ℕ → Bool) (n : ℕ) → ((k : ℕ) → k < n → p k ≡ r k) → someBelow p n ≡ someBelow r n
+unfolding someBelow
+some-same p r zero h = refl
+some-same p r (suc n) h = rw (some-same p r n (λ k b. h k (omega arith)), h n (omega arith))

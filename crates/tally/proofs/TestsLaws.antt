@@ -15,6 +15,9 @@ pub both-true : (a b : Bool) → both a b ≡ true → (a ≡ true) × (b ≡ tr
 both-true true b e = (refl, e)
 both-true false b e = (e, let z : _≡_ {A = Bool} false true = e in cc)
 
+pub both-hold : {a b : Bool} → a ≡ true → b ≡ true → both a b ≡ true
+both-hold p q = rw (p, q)
+
 -- the last test of a list stands alone
 pub both-end : (a : Bool) → both a true ≡ a
 both-end true = refl

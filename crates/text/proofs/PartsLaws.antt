@@ -1,13 +1,16 @@
--- Laws of several parts: how many there are, and the octets of each by its number.
+-- Laws of parts: one that reaches to the end; of several how many there are, and the octets of each by its number.
 -- They serve the loops over parts, here and in the crates above.
 use Prim.Native.Nat.{ℕ, zero, suc, _<_, _≤_}
 use mathlib.Core.Path.{_≡_, sym, _∙_}
 use mathlib.Core.List.{List, [], _∷_, map}
 use native.Mathlib.Omega.{arith}
-use lib.ListN.{length, take, getD, length-map, List·getD-map, List·getD-eq-default}
-use lib.Seq.{getD-take}
-use Rattle.text.specs.Part.{textOf, nowhere, mostParts, partsIn, textsOf}
+use lib.ListN.{length, take, drop, getD, length-drop, length-map, List·getD-map, List·getD-eq-default}
+use lib.Seq.{take-all, getD-take}
+use Rattle.text.specs.Part.{part, textOf, nowhere, mostParts, partsIn, textsOf}
 use Rattle.text.specs.declared.Parts.{Parts}
+
+pub text-behind : (s : List ℕ) (n : ℕ) → textOf s (part n (length s)) ≡ drop n s
+text-behind s n = take-all (length s) (drop n s) (omega (arith, length-drop n s))
 
 -- Of an array of structs the toolchain tells the length of a list that is mapped from it; this is that of the list itself
 pub length-mapped : (X Y : Type 0) (f : X → Y) (l : List X) (n : ℕ) → length (map f l) ≡ n → length l ≡ n

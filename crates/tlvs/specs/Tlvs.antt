@@ -87,17 +87,15 @@ abbrev pub unlessEmpty : (List ℕ → Tlv) → List ℕ → List Tlv
 unlessEmpty f [] = []
 unlessEmpty f (x ∷ l) = f (x ∷ l) ∷ []
 
-abbrev pub ifFlagged : Option Flags → List Tlv
-ifFlagged none = []
-ifFlagged (some f) = flagsTlv f ∷ []
-
-abbrev pub ifLinked : Option LinkInfo → List Tlv
-ifLinked none = []
-ifLinked (some l) = linkTlv l ∷ []
-
-abbrev pub ifPresent : (List ℕ → Tlv) → Option (List ℕ) → List Tlv
+abbrev pub ifPresent : {A : Type 0} → (A → Tlv) → Option A → List Tlv
 ifPresent f none = []
 ifPresent f (some x) = f x ∷ []
+
+abbrev pub ifFlagged : Option Flags → List Tlv
+ifFlagged capabilities = ifPresent flagsTlv capabilities
+
+abbrev pub ifLinked : Option LinkInfo → List Tlv
+ifLinked link = ifPresent linkTlv link
 
 abbrev pub ifExtended : Option (List ℕ) → List Tlv
 ifExtended content = ifPresent extensionTlv content

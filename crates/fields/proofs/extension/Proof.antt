@@ -1,11 +1,9 @@
 -- `fields::extension` meets its contract: one test of the content, which is all behind the subtype.
 -- Nothing more is needed.
 use mathlib.Core.Path.{sym, ap, _∙_}
-use native.Mathlib.Omega.{arith}
 use denote.Ref.{now}
 use borrow.Author.Needs.{needs}
-use lib.ListN.{length, drop, length-drop}
-use lib.Seq.{take-all}
+use Rattle.text.proofs.PartsLaws.{text-behind}
 use Rattle.extension.specs.Layout.{extensionOk}
 use Rattle.fields.specs.Field.{extensionOf}
 use Rattle.fields.proofs.extension.Statement.{statement}
@@ -24,7 +22,7 @@ returns : tie.Need-returns
 unfolding extensionOf
 returns c =
     let b = now (c .before .before .before .before .args .part) in
-    let content = c .before .before .text-of .ensures ∙ take-all (length b) (drop 4 b) (omega (arith, length-drop 4 b)) in
+    let content = c .before .before .text-of .ensures ∙ text-behind b 4 in
     rw (sym (c .before .extension-fits .ensures ∙ ap extensionOk content)) (c .says-if .ensures)
 
 pub extension-spec : {M : Type 1} → statement M

@@ -1,13 +1,11 @@
 -- `naming::sees` meets its contract: one case for each kind of field, and of topics for the two that name addresses.
 -- Each return cites what field_of ensures.
 use mathlib.Core.Path.{sym, ap, _∙_}
-use native.Mathlib.Omega.{arith}
 use denote.Ref.{now}
 use borrow.Author.Tests.{eq-eqb, ne-eqb}
 use borrow.Author.Needs.{needs}
-use lib.ListN.{length, drop, length-drop}
-use lib.Seq.{take-all}
 use Rattle.fields.specs.Field.{link, extension}
+use Rattle.text.proofs.PartsLaws.{text-behind}
 use Rattle.extension.specs.Layout.{extensionNames}
 use Rattle.naming.proofs.sees.Statement.{statement}
 use Rattle.naming.proofs.sees.Tie as tie
@@ -51,7 +49,7 @@ returns-5 : tie.Need-returns-5
 returns-5 c =
     let b = now (c .before .before .before .before .before .before .before .before .before .args .part) in
     let skip = c .before .before .before .before .before .topic .given .0 .1 .0 in
-    let content = c .before .text-of .ensures ∙ take-all (length b) (drop skip b) (omega (arith, length-drop skip b)) in
+    let content = c .before .text-of .ensures ∙ text-behind b skip in
     rw (sym (c .before .before .before .before .before .before .before .field-of .ensures) ∙ c .before .before .before .before .before .topic .given .1, ne-eqb (c .before .before .before .before .before .topic .given .0 .0) link (c .before .before .before .if1 .left), eq-eqb (c .before .before .before .before .before .topic .given .0 .0) extension (c .before .before .if2 .left))
     (c .extension-names .ensures ∙ ap (λ t. extensionNames t (c .before .before .before .before .before .before .before .before .before .args .address)) content)
 
