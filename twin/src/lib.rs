@@ -2,6 +2,7 @@
 //! It makes cases and the answers it expects, and another program's answers are compared with them.
 
 pub mod announcements;
+pub mod clock;
 pub mod events;
 pub mod extension;
 pub mod frames;

@@ -15,12 +15,14 @@ use Rattle.octets.specs.Address.{sixAt, sameOctets}
 use Rattle.extension.specs.Runs.{span}
 use Rattle.extension.specs.Layout.{itemSize, itemPlace, entrySize, width, entryCount, itemCount, entriesFrom, entryPlace, portItemCount, pairingCount, pairingsFrom, portItemsFrom, widthOk, endOk, extensionOk, extensionNames}
 use Rattle.links.specs.Link.{typeCount, numberCount, fourOk}
+use Rattle.links.specs.Row.{amongOf}
 use Rattle.tally.specs.Tests.{all}
 use Rattle.tally.proofs.TestsLaws.{both-true, held}
+use Rattle.tally.proofs.RangesLaws.{some-same}
 use Rattle.extension.specs.Asked.{openingOf, closingOf, countsBy, countsIn}
 use Rattle.extension.specs.declared.Opening.{Opening}
 use Rattle.extension.specs.declared.Closing.{Closing}
-use Rattle.extension.proofs.RunLaws.{span-none, span-add, span-more, span-past}
+use Rattle.extension.proofs.RunLaws.{span-none, span-add, span-more, span-past, span-even}
 
 -- the octets of so many things of one width, both counted by an octet
 pub product-small : (a b : ℕ) → a < 256 → b < 256 → a * b < 65536
@@ -104,6 +106,15 @@ module _ (t : List ℕ) {h : Opening} (e : h ≡ openingOf t) where
       rw (eq-eqb (width t) 6 (sym opening-width ∙ w))
       (ap (someBelow (λ i. sameOctets (sixAt t (entryPlace t i)) a)) (sym opening-count)
       ∙ ap (λ (p : ℕ → Bool). someBelow p (h .addresses)) (fun-ext (λ i. ap (λ (n : ℕ). sameOctets (sixAt t n) a) (at i))))
+
+  -- without items the addresses are in a row
+  pub names-row : (a : List ℕ) → h .width ≡ 6 → h .items ≡ 0 → extensionNames t a ≡ amongOf t (h .at) (h .addresses) a
+  names-row a w z =
+      let size : entrySize 6 (h .items) ≡ (λ l. 6) = ap (entrySize 6) z ∙ fun-ext (λ l. omega (arith, span-none itemSize (drop 6 l))) in
+      let at : (i : ℕ) → h .at + span (entrySize 6 (h .items)) i (drop (h .at) t) ≡ h .at + 6 * i =
+      λ i. omega (arith, ap (λ (f : List ℕ → ℕ). span f i (drop (h .at) t)) size ∙ span-even 6 i (drop (h .at) t))
+      in
+      names-six a w ∙ some-same _ _ (h .addresses) (λ i l. ap (λ (n : ℕ). sameOctets (sixAt t n) a) (at i))
 
   pub closing-read : {r d q : ℕ} → r ≡ h .at + span (entrySize (h .width) (h .items)) (h .addresses) (drop (h .at) t) → d ≡ getD t r 0 → q ≡ getD t (r + 1) 0
       → record { at = r + 2; portitems = d; pairings = q } ≡ closingOf t

@@ -7,6 +7,7 @@ ghost use Rattle.text.specs.Part.{nowhere};
 ghost use Rattle.extension.specs.Runs.{span};
 ghost use Rattle.extension.specs.Layout.{itemPlace, entrySize, widthOk, endOk, extensionOk, extensionNames};
 ghost use Rattle.extension.specs.Asked.{openingOf, closingOf, itemPart, addressAt, itemAt, pairingAt, portItemAt, tableOf, addressOf, itemOf, pairingOf, portItemOf, Answers, Counted};
+use links::among;
 use links::one_to_four;
 use octets::octet;
 use octets::same_six;
@@ -178,6 +179,10 @@ pub fn extension_names(t: &[u8], address: [u8; 6]) -> bool
     let h = opening_of(t);
     if h.width != 6 {
         return false;
+    }
+    // Without items the addresses are in a row.
+    if h.items == 0 {
+        return among(t, h.at as u16, h.addresses, address);
     }
     let mut at = h.at;
     for i in 0..h.addresses {
