@@ -105,7 +105,7 @@ module _ (t : List ℕ) {h : Opening} (e : h ≡ openingOf t) where
       in
       rw (eq-eqb (width t) 6 (sym opening-width ∙ w))
       (ap (someBelow (λ i. sameOctets (sixAt t (entryPlace t i)) a)) (sym opening-count)
-      ∙ ap (λ (p : ℕ → Bool). someBelow p (h .addresses)) (fun-ext (λ i. ap (λ (n : ℕ). sameOctets (sixAt t n) a) (at i))))
+      ∙ some-same _ _ (h .addresses) (λ i l. ap (λ (n : ℕ). sameOctets (sixAt t n) a) (at i)))
 
   -- without items the addresses are in a row
   pub names-row : (a : List ℕ) → h .width ≡ 6 → h .items ≡ 0 → extensionNames t a ≡ amongOf t (h .at) (h .addresses) a

@@ -7,13 +7,15 @@ use mathlib.Core.Bool.{Bool, true, false}
 use native.Mathlib.Omega.{arith}
 use borrow.Author.Tests.{eqb-true, eq-eqb}
 use lib.ListN.{length, take, drop, getD, length-append, length-drop, take-append-drop}
-use lib.Seq.{drop-append-seam, getD-drop, take-at, drop-at, take-add, drop-drop, drop-cons, take-all, length-take-le}
+use lib.Seq.{drop-append-seam, getD-drop, take-at, drop-at, take-add, drop-drop, take-all, length-take-le}
 use lib.Dec.{eqb}
 use Rattle.tally.specs.Tests.{both, all}
 use Rattle.tally.proofs.TestsLaws.{both-true, held, both-hold}
 use Rattle.tally.proofs.RangesLaws.{some-same}
 use Rattle.tally.specs.Ranges.{someBelow}
 use Rattle.octets.specs.Address.{sixAt, sameOctets}
+use Rattle.octets.proofs.PartLaws.{octet-then}
+use Rattle.octets.proofs.AddressLaws.{six-there}
 use Rattle.links.specs.Link.{typeCount, numberCount, fourOk}
 use Rattle.extension.specs.Runs.{span, each}
 use Rattle.extension.specs.Layout.{itemSize, itemPlace, entrySize, widthPlace, width, entryCount, itemCount, entriesFrom, entryPlace, portFrom, portItemCount, pairingCount, pairingsFrom, portItemsFrom, widthOk, endOk, extensionOk, extensionNames}
@@ -159,9 +161,6 @@ module _ (t : List ℕ) where
   step from size next e p q =
       ap₂ (λ (x y : List ℕ). x ++ y) p (q ∙ ap (λ (n : ℕ). drop n t) (sym e) ∙ sym (drop-drop size from t)) ∙ take-append-drop size (drop from t)
 
-  octet : (from next : ℕ) {l : List ℕ} → from < length t → suc from ≡ next → l ≡ drop next t → getD t from 0 ∷ l ≡ drop from t
-  octet from next h e q = ap (λ (l : List ℕ). getD t from 0 ∷ l) (q ∙ ap (λ (n : ℕ). drop n t) (sym e)) ∙ sym (drop-cons t from 0 h)
-
   module _ (fit : Fits t) where
     port-items-there : itemsLaid (tableFrom t .portItems) ≡ drop (portItemsFrom t) t
     port-items-there =
@@ -177,8 +176,8 @@ module _ (t : List ℕ) where
         ap₂ (λ (x y : ℕ). x ∷ y ∷ (joined (tableFrom t .pairings) ++ itemsLaid (tableFrom t .portItems)))
         (each-count itemSize itemIn (portItemCount t) (drop (portItemsFrom t) t))
         (each-count (λ x. p) (take p) (pairingCount t) l)
-        ∙ octet (portFrom t) (portFrom t + 1) (omega (arith, fit .end)) (omega arith)
-        (octet (portFrom t + 1) (pairingsFrom t) (omega (arith, fit .end)) (omega arith)
+        ∙ octet-then t (portFrom t) (portFrom t + 1) (omega (arith, fit .end)) (omega arith)
+        (octet-then t (portFrom t + 1) (pairingsFrom t) (omega (arith, fit .end)) (omega arith)
         (step (pairingsFrom t) (pairingCount t * p) (portItemsFrom t) refl there port-items-there))
 
     head-there : headLaid (tableFrom t) ≡ drop (widthPlace t) t
@@ -191,9 +190,9 @@ module _ (t : List ℕ) where
         let there = entries-laid p c (entryCount t) l (omega (arith, fit .end, length-drop (entriesFrom t) t)) in
         ap (λ (x : ℕ). p ∷ x ∷ c ∷ (joined (map entryLaid (tableFrom t .entries)) ++ tailLaid (tableFrom t)))
         (each-count (entrySize p c) (entryIn p c) (entryCount t) l)
-        ∙ octet at (at + 1) (omega (arith, fit .end)) (omega arith)
-        (octet (at + 1) (at + 2) (omega (arith, fit .end)) (omega arith)
-        (octet (at + 2) (entriesFrom t) (omega (arith, fit .end)) (omega arith)
+        ∙ octet-then t at (at + 1) (omega (arith, fit .end)) (omega arith)
+        (octet-then t (at + 1) (at + 2) (omega (arith, fit .end)) (omega arith)
+        (octet-then t (at + 2) (entriesFrom t) (omega (arith, fit .end)) (omega arith)
         (step (entriesFrom t) size (portFrom t) refl there tail-there)))
 
     all-there : laid (tableFrom t) ≡ t
@@ -202,7 +201,7 @@ module _ (t : List ℕ) where
         let m = numberCount 0 t in
         let number =
         item-laid (m ∷ drop (2 + n) t) (omega (arith, fit .end, length-drop (2 + n) t))
-        ∙ ap (take (1 + m)) (octet (1 + n) (2 + n) (omega (arith, fit .end)) (omega arith) refl)
+        ∙ ap (take (1 + m)) (octet-then t (1 + n) (2 + n) (omega (arith, fit .end)) (omega arith) refl)
         in
         step 0 (1 + n) (1 + n) (omega arith) (item-laid t (omega (arith, fit .end))) (step (1 + n) (1 + m) (widthPlace t) (omega arith) number head-there)
 
@@ -376,17 +375,6 @@ laid-read x ok =
     )
 
 -- The addresses that a content names
-
-six-there : (t : List ℕ) (at : ℕ) → at + 6 ≤ length t → sixAt t at ≡ take 6 (drop at t)
-unfolding sixAt
-six-there t at h =
-    ap (take 6)
-    (octet t at (at + 1) (omega arith) (omega arith)
-    (octet t (at + 1) (at + 2) (omega arith) (omega arith)
-    (octet t (at + 2) (at + 3) (omega arith) (omega arith)
-    (octet t (at + 3) (at + 4) (omega arith) (omega arith)
-    (octet t (at + 4) (at + 5) (omega arith) (omega arith)
-    (octet t (at + 5) (at + 6) (omega arith) (omega arith) refl))))))
 
 address-there : (t : List ℕ) → extensionOk t ≡ true → width t ≡ 6 → (i : ℕ) → i < entryCount t → sixAt t (entryPlace t i) ≡ addressOf (tableFrom t) i
 address-there t ok six i h =

@@ -1,19 +1,20 @@
 -- Laws of octets as one number, the first lowest: two strings of octets of one length are the same exactly if their numbers are.
 -- The numbers serve the speed of the comparison alone (A4).
 use Prim.{Unit, tt}
-use Prim.Native.Nat.{ℕ, suc, _+_, _-_, _*_, _/_, _<_, _≤_}
-use mathlib.Core.Path.{_≡_, refl, sym, ap, _∙_}
+use Prim.Native.Nat.{ℕ, _+_, _-_, _*_, _/_, _≤_}
+use mathlib.Core.Path.{_≡_, refl, ap, _∙_}
 use mathlib.Core.List.{List, [], _∷_}
 use mathlib.Core.Bool.{Bool, true, false}
 use native.Mathlib.Omega.{arith}
 use mir.Syntax.{w8}
 use mir.Val.{Fits}
 use borrow.Author.Tests.{eq-eqb, ne-eqb, eqb-true, eqb-false}
-use lib.ListN.{length, drop, getD, drop-of-length-le}
-use lib.Seq.{drop-cons}
+use lib.ListN.{length, getD}
+use lib.Seq.{take-all}
 use lib.Dec.{eqb}
 use Rattle.tally.specs.Tests.{both}
 use Rattle.octets.specs.Address.{sixAt, sameOctets}
+use Rattle.octets.proofs.AddressLaws.{six-there}
 
 unfoldable lowFirst : List ℕ → ℕ
 lowFirst [] = 0
@@ -39,14 +40,6 @@ same-number [] (y ∷ b) e h k = absurd (omega arith)
 same-number (x ∷ a) [] e h k = absurd (omega arith)
 same-number (x ∷ a) (y ∷ b) e h k = digit x y (lowFirst a) (lowFirst b) (h .0) (k .0) ∙ ap (both (eqb x y)) (same-number a b (omega arith) (h .1) (k .1))
 
--- an address is its six octets
-six-whole : (a : List ℕ) → length a ≡ 6 → sixAt a 0 ≡ a
-unfolding sixAt
-six-whole a e =
-    let next : (i : ℕ) → i < 6 → drop i a ≡ getD a i 0 ∷ drop (suc i) a = λ i h. drop-cons a i 0 (omega arith) in
-    let none : drop 6 a ≡ [] = drop-of-length-le a {i = 6} (omega arith) in
-    sym (next 0 (omega arith) ∙ rw (next 1 (omega arith), next 2 (omega arith), next 3 (omega arith), next 4 (omega arith), next 5 (omega arith), none))
-
 -- the six octets at a place, read as the last of eight, beside an address
 module _ (s a : List ℕ) (at : ℕ) (o : (i : ℕ) → Fits w8 (getD s i 0)) (p : (i : ℕ) → Fits w8 (getD a i 0)) where
   same-octet : {i j : ℕ} → i ≡ j → getD s i 0 ≡ getD s j 0
@@ -68,4 +61,4 @@ module _ (s a : List ℕ) (at : ℕ) (o : (i : ℕ) → Fits w8 (getD s i 0)) (p
       let wanted : w ≡ lowFirst (sixAt a 0) = omega (arith, z) in
       rw (there, wanted)
       (same-number (sixAt s at) (sixAt a 0) refl (o at, (o (at + 1), (o (at + 2), (o (at + 3), (o (at + 4), (o (at + 5), tt)))))) (p 0, (p 1, (p 2, (p 3, (p 4, (p 5, tt))))))
-      ∙ ap (sameOctets (sixAt s at)) (six-whole a e))
+      ∙ ap (sameOctets (sixAt s at)) (six-there a 0 (omega arith) ∙ take-all 6 a (omega arith)))

@@ -6,5 +6,6 @@ use mathlib.Core.Bool.{Bool}
 use Rattle.tally.specs.Ranges.{someBelow}
 use Rattle.octets.specs.Address.{sixAt, sameOctets}
 
+-- one of the count addresses from first on is a (A4)
 abbrev pub amongOf : List ℕ → ℕ → ℕ → List ℕ → Bool
 amongOf s first count a = someBelow (λ i. sameOctets (sixAt s (first + 6 * i)) a) count

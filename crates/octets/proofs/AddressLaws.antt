@@ -1,4 +1,4 @@
--- Laws of addresses: the test for sameness says what it should, what the loop over six octets cites, addresses past the end or in front of other octets.
+-- Laws of addresses: the test for sameness says what it should, what the loop over six octets cites, addresses as a part, past the end, or in front of other octets.
 -- `same-equal` and `same-refl` pass between the test and equality.
 use Prim.Native.Nat.{ℕ, _+_, _<_, _≤_}
 use mathlib.Core.Path.{_≡_, refl, ap, ap₂}
@@ -7,12 +7,13 @@ use mathlib.Core.Bool.{Bool, true, false}
 use native.Mathlib.Omega.{arith}
 use borrow.Author.Tests.{eq-eqb, eqb-true}
 use native.Mathlib.Numerals.{add-one}
-use lib.ListN.{length, drop, getD, drop-of-length-le, List·getD-eq-default, List·getD-append}
+use lib.ListN.{length, take, drop, getD, drop-of-length-le, List·getD-eq-default, List·getD-append}
 use lib.Seq.{drop-cons}
 use lib.Dec.{eqb}
 use Rattle.tally.specs.Tests.{both}
 use Rattle.tally.proofs.TestsLaws.{both-true}
 use Rattle.octets.specs.Address.{sixAt, sameOctets}
+use Rattle.octets.proofs.PartLaws.{octet-then}
 
 pub same-refl : (a : List ℕ) → sameOctets a a ≡ true
 unfolding sameOctets
@@ -52,6 +53,18 @@ unfolding sixAt
 six-past s at h =
     let z : (i : ℕ) → getD s (at + i) 0 ≡ 0 = λ i. List·getD-eq-default s 0 (omega arith) in
     rw (List·getD-eq-default s 0 h, z 1, z 2, z 3, z 4, z 5)
+
+-- where they are there, the six octets at a place are a part
+pub six-there : (s : List ℕ) (at : ℕ) → at + 6 ≤ length s → sixAt s at ≡ take 6 (drop at s)
+unfolding sixAt
+six-there s at h =
+    ap (take 6)
+    (octet-then s at (at + 1) (omega arith) (omega arith)
+    (octet-then s (at + 1) (at + 2) (omega arith) (omega arith)
+    (octet-then s (at + 2) (at + 3) (omega arith) (omega arith)
+    (octet-then s (at + 3) (at + 4) (omega arith) (omega arith)
+    (octet-then s (at + 4) (at + 5) (omega arith) (omega arith)
+    (octet-then s (at + 5) (at + 6) (omega arith) (omega arith) refl))))))
 
 -- an address in front of other octets is what it was without them
 pub six-front : (h s : List ℕ) (at : ℕ) → at + 6 ≤ length h → sixAt (h ++ s) at ≡ sixAt h at

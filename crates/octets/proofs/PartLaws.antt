@@ -1,4 +1,4 @@
--- Laws of parts of a text: a part as a callee has it, a part of a part, and a part that is lent and comes back changed.
+-- Laws of parts of a text: an octet and what is behind it, a part as a callee has it, a part of a part, and a part that is lent and comes back changed.
 -- They hold for any text, any start and any length.
 use Prim.Native.Nat.{ℕ, zero, suc, _+_, _-_, _<_, _≤_}
 use mathlib.Core.Path.{_≡_, sym, ap, ap₂, _∙_}
@@ -7,7 +7,11 @@ use native.Mathlib.Omega.{arith}
 use native.Mathlib.Nat.{add-sub-cancel-left}
 use borrow.Rule.Slice.PartMut.{midOf, putMid, post-is, mid-len}
 use lib.ListN.{length, take, drop, getD, length-drop}
-use lib.Seq.{take-nil, take-all, take-take, drop-drop, drop-length, getD-take, getD-drop}
+use lib.Seq.{take-nil, take-all, take-take, drop-drop, drop-length, getD-take, getD-drop, drop-cons}
+
+-- an octet that is there, and what is behind it
+pub octet-then : (s : List ℕ) (from next : ℕ) {l : List ℕ} → from < length s → suc from ≡ next → l ≡ drop next s → getD s from 0 ∷ l ≡ drop from s
+octet-then s from next h e q = ap (λ (l : List ℕ). getD s from 0 ∷ l) (q ∙ ap (λ (n : ℕ). drop n s) (sym e)) ∙ sym (drop-cons s from 0 h)
 
 -- &s[a..a + n] and &s[a..]
 pub part-is : (s : List ℕ) (a n : ℕ) → take (a + n - a) (drop a s) ≡ take n (drop a s)
