@@ -3,7 +3,7 @@
 //! compared.
 
 use crate::reader::Address;
-use crate::table::{Table, BUFFER_OCTETS, PLACES};
+use crate::table::{Table, BUFFER_OCTETS, PLACES, PORTS};
 
 /// Octets past these are not read: the hundreds, the address and the longest frame (F1).
 const SEEK_OCTETS: usize = 1 + 6 + 1514;
@@ -11,6 +11,9 @@ const SEEK_OCTETS: usize = 1 + 6 + 1514;
 /// Where the frame begins, and where its port ID has its octet if it starts as frame A does.
 const FRAME: usize = 7;
 const PORT_ID: usize = 33;
+
+/// How many neighbours of each port make the table full (N1).
+const OF_EACH_PORT: usize = PLACES / PORTS;
 
 /// Octets past these are not read: the thousands, the address and sixteen of the longest
 /// information strings (L1).
@@ -52,17 +55,17 @@ fn address_at(input: &[u8], at: usize) -> Address {
     std::array::from_fn(|i| octet(input, at + i))
 }
 
-/// The table after the frame was heard from 32 neighbours, four on each port, whose port IDs
-/// differ. A frame that is refused leaves it as it was (R12).
+/// The table after the frame was heard from a neighbour for each place, equally many on each port,
+/// whose port IDs differ. A frame that is refused leaves it as it was (R12).
 fn filled(input: &mut [u8]) -> (Table, Vec<u8>) {
     let mut table = Table::default();
     let mut buffer = vec![0; BUFFER_OCTETS];
     for place in 0..PLACES {
         if let Some(id) = input.get_mut(PORT_ID) {
-            *id = (place % 4) as u8;
+            *id = (place % OF_EACH_PORT) as u8;
         }
         let frame = input.get(FRAME..).unwrap_or_default();
-        let _ = table.frame_on_port(&mut buffer, place / 4, frame);
+        let _ = table.frame_on_port(&mut buffer, place / OF_EACH_PORT, frame);
     }
     (table, buffer)
 }
@@ -121,14 +124,16 @@ mod tests {
     #[test]
     fn the_table_is_full() {
         let (table, buffer) = filled(&mut seek_input(0, SOUGHT));
-        assert!((0..8).all(|port| table.how_many(&buffer, port) == Ok(4)));
+        assert!((0..PORTS).all(|port| table.how_many(&buffer, port) == Ok(OF_EACH_PORT)));
+        assert_eq!(table.used().count(), PLACES);
     }
 
     #[test]
     fn what_seek_makes_of_an_answer() {
         let (table, mut buffer) = filled(&mut seek_input(0, SOUGHT));
         let from = |place| seen(&table, &buffer, SOUGHT, place);
-        assert_eq!([from(0), from(1), from(31), from(32)], [512, 513, 543, 0]);
+        let last = PLACES - 1;
+        assert_eq!([from(0), from(1), from(last), from(PLACES)], [512, 513, 512 + last, 0]);
         assert_eq!(seen(&table, &buffer, neighbour(2), 0), 0);
         buffer.pop();
         assert_eq!(seen(&table, &buffer, SOUGHT, 0), 1024);

@@ -1,6 +1,6 @@
-//! The events: the run cases, frames from group addresses, neighbours much like each other, random
-//! sequences of calls on the table, spoiled tables, and records with extension link information.
-//! The case file and the text that is expected for it are made here.
+//! The events: the run cases, frames from group addresses, neighbours much like each other, the last
+//! ports and places, random sequences of calls on the table, spoiled tables, and records with
+//! extension link information. The case file and the text that is expected for it are made here.
 //!
 //! A spoiled table is made in this way. Events have led to a table that is fit, and it is kept.
 //! Edits follow: a number of a place or an octet becomes another one, a place is copied to another
@@ -11,6 +11,7 @@ mod bench;
 mod chassis;
 mod desk;
 mod extension;
+mod last;
 mod maker;
 mod random;
 mod spoils;
@@ -59,6 +60,7 @@ pub fn events() -> Vec<Event> {
     maker.bench();
     maker.frames_from_group_addresses();
     maker.chassis();
+    maker.last_ports_and_places();
     maker.sequences();
     maker.extensions();
     maker.events
@@ -114,8 +116,16 @@ pub(crate) mod tests {
     use super::*;
     use crate::frames::blocks::{from_a_group, from_a_station, HEADER};
     use crate::id::Id;
-    use crate::table::{octets_of, BUFFER_OCTETS};
+    use crate::table::{
+        buffer_octets, octets_of, places, Table, BUFFER_OCTETS, COMMON, MOST, PLACES, PLACE_OCTETS,
+        PORTS,
+    };
+    use std::collections::HashSet;
+    use std::mem;
     use std::sync::OnceLock;
+
+    /// From here on are the places that a cell with two ports fewer has not.
+    const BEHIND_A_SMALLER_CELL: usize = places(PORTS - 2);
 
     /// Made once for all tests, since the digests take their time.
     pub fn stored() -> &'static (Vec<Event>, String) {
@@ -168,23 +178,140 @@ pub(crate) mod tests {
         assert!(counts.iter().all(|&(_, count)| count >= 20));
     }
 
-    /// Everything about a port that is no port: alone, and as the low bits of something greater.
+    /// A call, the table before it, how many octets its buffer had, and its answer.
+    struct Call {
+        event: &'static Event,
+        before: Table,
+        octets: usize,
+        answer: String,
+    }
+
+    /// All calls but those on spoiled tables.
+    fn calls() -> Vec<Call> {
+        let mut desk = Desk::new();
+        let mut calls = Vec::new();
+        for event in &stored().0 {
+            let (before, octets) = (desk.table.clone(), desk.buffer().len());
+            if let Event::Spoiled(_) = event {
+                desk.take_back();
+            } else if let Some(answer) = desk.act(event) {
+                calls.push(Call { event, before, octets, answer });
+            }
+        }
+        calls
+    }
+
+    /// The frames, the lost links and the questions how many, each with its port, with what the port
+    /// held before it, and with its answer.
+    fn on_ports(calls: &[Call]) -> [Vec<(usize, usize, &str)>; 3] {
+        let mut kinds = [vec![], vec![], vec![]];
+        for Call { event, before, answer, .. } in calls {
+            let (kind, port) = match **event {
+                Event::Frame { port, .. } => (0, port),
+                Event::Lost { port } => (1, port),
+                Event::HowMany { port } => (2, port),
+                _ => continue,
+            };
+            kinds[kind].push((port, before.held(port), answer.as_str()));
+        }
+        kinds
+    }
+
     #[test]
     fn no_port_is_missing() {
-        let ports: Vec<usize> = stored()
-            .0
-            .iter()
-            .filter_map(|event| match event {
-                Event::Frame { port, .. } | Event::Lost { port } | Event::HowMany { port } => {
-                    Some(*port)
-                }
-                _ => None,
-            })
-            .collect();
-        for port in [0, 1, 2, 3, 4, 5, 6, 7, 8, 9, 255, 256, 65_536, usize::MAX] {
-            assert!(ports.contains(&port), "port {port}");
+        let calls = calls();
+        let [frames, lost, how_many] = on_ports(&calls);
+        let replies =
+            ["recorded", "refreshed", "gone", "unknown goodbye", "refused 7", "refused 8"];
+        for port in 0..PORTS {
+            for reply in replies {
+                let replied = |&(p, _, answer): &(usize, usize, &str)| p == port && answer == reply;
+                assert!(frames.iter().any(replied), "{reply} on port {port}");
+            }
+            for held in 0..=MOST {
+                let answer = format!("holds {held}");
+                assert!(how_many.contains(&(port, held, &answer)), "{answer} on port {port}");
+            }
+            assert!(lost.contains(&(port, MOST, "done")), "link lost on port {port}");
         }
-        assert!(ports.iter().any(|port| *port > 1 << 32 && port % 256 < 8));
+    }
+
+    /// Numbers that are no port: alone, and with a port as the low bits of something greater (R2).
+    #[test]
+    fn no_number_behind_the_last_port_is_missing() {
+        for kind in on_ports(&calls()) {
+            for port in [PORTS, PORTS + 1, 255, 256, 65_536, usize::MAX] {
+                assert!(kind.contains(&(port, 0, "refused 2")), "port {port}");
+            }
+            let greater = |port: usize| port > 1 << 32 && port % 256 < PORTS;
+            assert!(kind.iter().any(|&(port, _, answer)| greater(port) && answer == "refused 2"));
+        }
+    }
+
+    /// Each place is used at some time, and often all of them are at once.
+    #[test]
+    fn no_place_is_missing() {
+        let calls = calls();
+        for place in 0..PLACES {
+            assert!(calls.iter().any(|call| call.before.length[place] != 0), "place {place}");
+        }
+        let full = calls.iter().filter(|call| call.before.free().count() == 0).count();
+        println!("{full} calls on full tables");
+        assert!(full >= 20);
+    }
+
+    /// Who sees an address from the last places on, and from behind them (N11): on a full table, and
+    /// on one whose last place alone is free, where the last two ports have the last places.
+    #[test]
+    fn no_start_around_the_end_is_missing() {
+        let calls = calls();
+        let last = PLACES - 1;
+        let answers = |free: &[usize], start: usize| -> Vec<&str> {
+            let asked = |call: &&Call| {
+                let Call { event, before, octets, .. } = call;
+                let mut last_ports = before.port[BEHIND_A_SMALLER_CELL..last].iter();
+                matches!(event, Event::WhoSees { from, .. } if *from == start)
+                    && *octets == BUFFER_OCTETS
+                    && before.free().eq(free.iter().copied())
+                    && last_ports.all(|&port| usize::from(port) >= PORTS - 2)
+            };
+            calls.iter().filter(asked).map(|call| call.answer.as_str()).collect()
+        };
+        let sees = |free: &[usize], place: usize| {
+            let found = format!("place {place} ");
+            answers(free, place).iter().any(|answer| answer.starts_with(&found))
+        };
+        let nobody_sees = |free: &[usize], start: usize| {
+            let answers = answers(free, start);
+            !answers.is_empty() && answers.iter().all(|&answer| answer == "nobody")
+        };
+        assert!(sees(&[], last - 1) && sees(&[], last));
+        assert!([PLACES, PLACES + 1, usize::MAX].iter().all(|&start| nobody_sees(&[], start)));
+        assert!(sees(&[last], last - 1) && nobody_sees(&[last], last));
+    }
+
+    /// Each of the six calls is refused with a buffer of each wrong length, that of a cell with two
+    /// ports fewer among them, and many tables are spoiled by it (R1).
+    #[test]
+    fn no_wrong_length_is_missing() {
+        let fewer = [buffer_octets(PORTS - 2), BUFFER_OCTETS - PLACE_OCTETS, BUFFER_OCTETS - 1];
+        let more = [BUFFER_OCTETS + 1, BUFFER_OCTETS + PLACE_OCTETS];
+        let lengths = [&[0, 1], &fewer[..], &more].concat();
+        let calls = calls();
+        let mut counts = vec![0; lengths.len()];
+        at_each_trial(|desk, _| {
+            if let Some(i) = lengths.iter().position(|&length| length == desk.buffer().len()) {
+                counts[i] += 1;
+            }
+        });
+        println!("{lengths:?} {counts:?}");
+        assert!(counts.iter().all(|&count| count >= 20));
+        for length in lengths {
+            let given = calls.iter().filter(|call| call.octets == length);
+            assert!(given.clone().all(|call| call.answer == "refused 1"));
+            let kinds: HashSet<_> = given.map(|call| mem::discriminant(call.event)).collect();
+            assert_eq!(kinds.len(), 6, "{length} octets");
+        }
     }
 
     /// A frame from a group address gets 3 where no 1 or 2 is due (F4, R11) and changes nothing
@@ -244,6 +371,52 @@ pub(crate) mod tests {
         });
         println!("{counts:?}");
         assert!(counts.iter().all(|&count| count >= 300));
+    }
+
+    /// The places that differ from those of the kept table.
+    fn spoiled_places(desk: &Desk) -> Vec<usize> {
+        let mut kept = desk.clone();
+        kept.take_back();
+        let differs = |&place: &usize| {
+            let [now, before] = [desk, &kept].map(|Desk { table, .. }| {
+                (table.port[place], table.seconds[place], table.length[place])
+            });
+            let octets = octets_of(place);
+            now != before || desk.buffer()[octets.clone()] != kept.buffer()[octets]
+        };
+        (0..PLACES).filter(differs).collect()
+    }
+
+    /// In each way that spoils a place the last places are spoiled, and the very last one.
+    #[test]
+    fn no_last_place_is_spared() {
+        let of_a_place = |way: Way| "bcd".contains(way.letter());
+        let mut counts = Way::ALL.map(|(way, ..)| (way, 0, 0));
+        at_each_trial(|desk, trial| {
+            if of_a_place(trial.way) {
+                let places = spoiled_places(desk);
+                let (_, behind, last) = &mut counts[trial.way as usize];
+                *behind += usize::from(places.iter().any(|&place| place >= BEHIND_A_SMALLER_CELL));
+                *last += usize::from(places.contains(&(PLACES - 1)));
+            }
+        });
+        println!("{counts:?}");
+        let mut counts = counts.iter().filter(|(way, ..)| of_a_place(*way));
+        assert!(counts.all(|&(_, behind, last)| behind >= 10 && last >= 5));
+    }
+
+    /// The number just behind the last port, and just one too many on a port or in common places.
+    #[test]
+    fn limits_are_passed_by_one() {
+        let mut next_ports = 0;
+        at_each_trial(|Desk { table, .. }, trial| match trial.way {
+            Way::PortBehindTheLast => next_ports += usize::from(table.held(PORTS) > 0),
+            Way::SevenOnAPort => assert!((0..PORTS).any(|port| table.held(port) == MOST + 1)),
+            Way::OneBeyondTheCommon => assert_eq!(table.common_taken(), COMMON + 1),
+            _ => {}
+        });
+        println!("{next_ports} records with the next port");
+        assert!(next_ports >= 20);
     }
 
     /// A chassis at a place is wrong in each way that L3 names.
@@ -315,7 +488,7 @@ pub(crate) mod tests {
     fn the_digest_of_nothing_but_zeros() {
         // h = 31 h + 1 from 0 on, so often as there are numbers and octets.
         let mut h: u64 = 0;
-        for _ in 0..3 * 32 + BUFFER_OCTETS {
+        for _ in 0..3 * PLACES + BUFFER_OCTETS {
             h = (31 * h + 1) % 4_294_967_291;
         }
         let mut desk = Desk::new();

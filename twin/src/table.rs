@@ -1,4 +1,4 @@
-//! The neighbour table of eight ports: 32 places over a lent buffer, and the six calls on them.
+//! The neighbour table of a cell: the places over a lent buffer, and the six calls on them.
 //! Each call judges the fitness of what it is handed first, and a refusal changes nothing (R12).
 
 use std::ops::Range;
@@ -6,30 +6,56 @@ use std::ops::Range;
 use crate::id::Id;
 use crate::reader::{name_link, outline_frame, outline_lldpdu, Address, Naming, Outline, Refusal};
 
-pub const PLACES: usize = 32;
+/// The number of ports, which is n in the rules. All sizes of the table follow from it (N1).
+pub const PORTS: usize = 10;
+pub const PLACES: usize = places(PORTS);
 pub const PLACE_OCTETS: usize = 1500;
-pub const BUFFER_OCTETS: usize = PLACES * PLACE_OCTETS;
-pub const PORTS: usize = 8;
+pub const BUFFER_OCTETS: usize = buffer_octets(PORTS);
+
+/// What a port holds is counted in an octet (N1).
+const _: () = assert!(PORTS >= 1 && PORTS <= 63);
 
 const HEADER_OCTETS: usize = 14;
 
 /// What a port can hold at most, what it is sure of, and what all ports share (N12).
 pub const MOST: usize = 6;
 pub const SURE: usize = 2;
-pub const COMMON: usize = 16;
+pub const COMMON: usize = common(PORTS);
 
 const UNFIT: Refusal = 1;
 const NO_SUCH_PORT: Refusal = 2;
 const PORT_HOLDS_SIX: Refusal = 7;
 const COMMON_TAKEN: Refusal = 8;
 
+/// The places of a cell with so many ports (N1).
+pub const fn places(ports: usize) -> usize {
+    4 * ports
+}
+
+/// The octets of its buffer (N1).
+pub const fn buffer_octets(ports: usize) -> usize {
+    PLACE_OCTETS * places(ports)
+}
+
+/// Those of its places that are common (N12).
+pub const fn common(ports: usize) -> usize {
+    2 * ports
+}
+
 /// The table's own numbers; the octets lie in the lent buffer (N1).
-#[derive(Clone, Debug, Default, PartialEq, Eq)]
+#[derive(Clone, Debug, PartialEq, Eq)]
 pub struct Table {
     pub port: [u8; PLACES],
     /// Seconds left.
     pub seconds: [u16; PLACES],
     pub length: [u16; PLACES],
+}
+
+impl Default for Table {
+    /// All places are free (N4).
+    fn default() -> Table {
+        Table { port: [0; PLACES], seconds: [0; PLACES], length: [0; PLACES] }
+    }
 }
 
 /// What becomes of a frame that is not refused (N7).
@@ -152,7 +178,7 @@ impl Table {
         Ok(self.held(port))
     }
 
-    /// Who sees an address, from a place on (N11). A start of 32 or more finds nobody.
+    /// Who sees an address, from a place on (N11). A start behind the last place finds nobody.
     pub fn who_sees(
         &self,
         buffer: &[u8],
@@ -242,7 +268,7 @@ impl Table {
     }
 
     /// The lowest free place, or 7, or 8 (N4, N12). A fit table has a free place where neither is
-    /// due: 32 places are two for each of eight ports and sixteen common ones.
+    /// due: its 4n places are two sure ones for each of n ports and 2n common ones.
     fn place_for_a_new_one(&self, port: usize) -> Result<usize, Refusal> {
         let held = self.held(port);
         if held >= MOST {

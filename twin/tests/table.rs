@@ -1,14 +1,23 @@
 //! The table's rules N1 to N12, R1 to R12 and the run cases B13, as ordinary tests.
-//! Octets and expected values are typed from the rules page by hand, never taken from the program.
+//! Octets and expected values are typed from the rules page by hand, never taken from the program,
+//! but for the sizes that follow from the number of ports; one test holds those to the page.
 
 mod page;
 
 use page::*;
 use twin::id::Id;
 use twin::reader::{Counted, Naming, Refusal};
-use twin::table::{Reply, Sighting, Table};
+use twin::table::{
+    buffer_octets, common, places, Reply, Sighting, Table, BUFFER_OCTETS, PLACES, PORTS,
+};
 
 use Reply::{Gone, Recorded, Refreshed, UnknownGoodbye};
+
+const LAST_PORT: usize = PORTS - 1;
+const LAST_PLACE: usize = PLACES - 1;
+
+/// With six on each of so many ports all common places are taken; the number of ports is even.
+const HALF: usize = PORTS / 2;
 
 /// Places of octets in A: the last of the chassis, the subtype and the octet of the port ID, and
 /// the two of the seconds.
@@ -34,6 +43,11 @@ fn lldpdu(changes: &[(usize, u8)]) -> Vec<u8> {
 /// Frame A from the neighbour of that number.
 fn neighbour(number: u8) -> Vec<u8> {
     frame(&[(CHASSIS, number)])
+}
+
+/// The number of a port's neighbour: 10 x port + 1 and so on.
+fn numbered(port: usize, number: u8) -> u8 {
+    10 * port as u8 + number
 }
 
 /// Seconds 0 and nothing else: A without its device information.
@@ -63,29 +77,30 @@ struct Watch {
 
 impl Watch {
     fn started() -> Watch {
-        let mut watch = Watch { table: Table::default(), buffer: vec![0xEE; 48_000] };
-        watch.table.port[3] = 9;
+        let mut watch = Watch { table: Table::default(), buffer: vec![0xEE; BUFFER_OCTETS] };
+        watch.table.port[3] = 255;
         watch.table.seconds[0] = 1;
-        watch.table.length[31] = 65_535;
+        watch.table.length[LAST_PLACE] = 65_535;
         assert_eq!(watch.start(), Ok(()));
         watch
     }
 
-    /// Each port holds so many neighbours, 10 x port + 1 and so on.
+    /// Each of these ports holds so many neighbours.
     fn holding(ports: &[(usize, u8)]) -> Watch {
         let mut watch = Watch::started();
         for &(port, count) in ports {
             for number in 1..=count {
-                let frame = neighbour(10 * port as u8 + number);
+                let frame = neighbour(numbered(port, number));
                 assert_eq!(watch.frame(port, &frame), Ok(Recorded));
             }
         }
         watch
     }
 
-    /// Ports 0 to 3 hold six each, port 4 holds two (B13).
+    /// The first half of the ports hold six each, the next one holds two (B13).
     fn of_b13() -> Watch {
-        Watch::holding(&[(0, 6), (1, 6), (2, 6), (3, 6), (4, 2)])
+        let first_half = (0..HALF).map(|port| (port, 6));
+        Watch::holding(&first_half.chain([(HALF, 2)]).collect::<Vec<_>>())
     }
 
     fn start(&mut self) -> Result<(), Refusal> {
@@ -113,8 +128,8 @@ impl Watch {
     }
 
     /// The place has these numbers and octets, and zeros behind them.
-    fn has(&self, place: usize, port: u8, seconds: u16, octets: &[u8]) {
-        assert_eq!(self.table.port[place], port);
+    fn has(&self, place: usize, port: usize, seconds: u16, octets: &[u8]) {
+        assert_eq!(usize::from(self.table.port[place]), port);
         assert_eq!(self.table.seconds[place], seconds);
         assert_eq!(usize::from(self.table.length[place]), octets.len());
         let (kept, behind) = self.buffer[1500 * place..1500 * (place + 1)].split_at(octets.len());
@@ -136,7 +151,7 @@ impl Watch {
 
     /// All calls but Start refuse with 1, whatever the port, the frame and the start are (R11).
     fn is_unfit(&mut self) {
-        for port in [0, 7, 8, usize::MAX] {
+        for port in [0, LAST_PORT, PORTS, usize::MAX] {
             self.refuses(1, |watch| watch.frame(port, &neighbour(1)).err());
             self.refuses(1, |watch| watch.frame(port, &goodbye(1)).err());
             self.refuses(1, |watch| watch.frame(port, &[]).err());
@@ -147,7 +162,7 @@ impl Watch {
         for seconds in [0, 1, 65_535] {
             self.refuses(1, |watch| watch.seconds(seconds).err());
         }
-        for from in [0, 31, 32, usize::MAX] {
+        for from in [0, LAST_PLACE, PLACES, usize::MAX] {
             self.refuses(1, |watch| watch.sees([0; 6], from).err());
         }
     }
@@ -168,33 +183,61 @@ fn spoiled(change: impl Fn(&mut Watch)) {
     assert_eq!(watch, Watch::started());
 }
 
+/// A table that is fit is lent a buffer of another length: 1 for Start and for the other five.
+fn lent(octets: usize, filler: u8) {
+    let mut watch = Watch::holding(&[(1, 1)]);
+    watch.buffer.resize(octets, filler);
+    watch.refuses(1, |watch| watch.start().err());
+    watch.is_unfit();
+}
+
+/// The table of N1 for several numbers of ports: places, octets of the buffer, common places.
+#[test]
+fn the_sizes_follow_from_the_number_of_ports() {
+    for (ports, sizes) in [
+        (1, (4, 6_000, 2)),
+        (8, (32, 48_000, 16)),
+        (10, (40, 60_000, 20)),
+        (63, (252, 378_000, 126)),
+    ] {
+        assert_eq!((places(ports), buffer_octets(ports), common(ports)), sizes);
+    }
+}
+
 #[test]
 fn start_makes_everything_0() {
     let watch = Watch::started();
-    assert_eq!(watch.table, Table { port: [0; 32], seconds: [0; 32], length: [0; 32] });
-    assert_eq!(watch.buffer, vec![0; 48_000]);
-    for length in [0, 1, 47_999, 48_001, 96_000] {
-        let mut other = Watch::holding(&[(1, 1)]);
-        other.buffer.resize(length, 0xEE);
-        other.refuses(1, |watch| watch.start().err());
-        other.is_unfit();
+    let numbers = Table { port: [0; PLACES], seconds: [0; PLACES], length: [0; PLACES] };
+    assert_eq!(watch.table, numbers);
+    assert_eq!(watch.buffer, vec![0; BUFFER_OCTETS]);
+    for octets in [0, 1, BUFFER_OCTETS - 1, BUFFER_OCTETS + 1, 2 * BUFFER_OCTETS] {
+        lent(octets, 0xEE);
+    }
+}
+
+/// Two ports or a place fewer or more: zeros would suit the table in all but their number (N5).
+#[test]
+fn the_buffer_of_another_cell_is_unfit() {
+    let [fewer, more] = [PORTS - 2, PORTS + 2].map(buffer_octets);
+    for octets in [fewer, BUFFER_OCTETS - 1500, BUFFER_OCTETS + 1500, more] {
+        lent(octets, 0);
     }
 }
 
 #[test]
 fn a_new_record_takes_the_lowest_free_place() {
-    let mut watch = Watch::holding(&[(5, 3)]);
-    watch.has(0, 5, 120, &lldpdu(&[(CHASSIS, 51)]));
-    watch.has(1, 5, 120, &lldpdu(&[(CHASSIS, 52)]));
-    watch.has(2, 5, 120, &lldpdu(&[(CHASSIS, 53)]));
+    let mut watch = Watch::holding(&[(4, 3)]);
+    watch.has(0, 4, 120, &lldpdu(&[(CHASSIS, 41)]));
+    watch.has(1, 4, 120, &lldpdu(&[(CHASSIS, 42)]));
+    watch.has(2, 4, 120, &lldpdu(&[(CHASSIS, 43)]));
     watch.has(3, 0, 0, &[]);
-    assert_eq!(watch.frame(5, &goodbye(52)), Ok(Gone));
+    assert_eq!(watch.frame(4, &goodbye(42)), Ok(Gone));
     watch.has(1, 0, 0, &[]);
-    watch.has(2, 5, 120, &lldpdu(&[(CHASSIS, 53)]));
-    assert_eq!(watch.frame(6, &neighbour(9)), Ok(Recorded));
-    watch.has(1, 6, 120, &lldpdu(&[(CHASSIS, 9)]));
-    assert_eq!(watch.frame(6, &neighbour(8)), Ok(Recorded));
-    watch.has(3, 6, 120, &lldpdu(&[(CHASSIS, 8)]));
+    watch.has(2, 4, 120, &lldpdu(&[(CHASSIS, 43)]));
+    assert_eq!(watch.frame(LAST_PORT, &neighbour(9)), Ok(Recorded));
+    watch.has(1, LAST_PORT, 120, &lldpdu(&[(CHASSIS, 9)]));
+    assert_eq!(watch.frame(LAST_PORT, &neighbour(8)), Ok(Recorded));
+    watch.has(3, LAST_PORT, 120, &lldpdu(&[(CHASSIS, 8)]));
 }
 
 #[test]
@@ -216,17 +259,17 @@ fn the_longest_lldpdu_fills_its_place() {
     let longest = [&A[..17], &skipped, &skipped, &last, &[0x00, 0x00]].concat();
     assert_eq!(longest.len(), 1500);
     let mut watch = Watch::holding(&[(1, 1)]);
-    assert_eq!(watch.frame(7, &[&HEADER[..], &longest].concat()), Ok(Recorded));
-    watch.has(1, 7, 120, &longest);
-    assert_eq!(watch.frame(7, &neighbour(70)), Ok(Recorded));
-    watch.has(1, 7, 120, &longest);
+    assert_eq!(watch.frame(LAST_PORT, &[&HEADER[..], &longest].concat()), Ok(Recorded));
+    watch.has(1, LAST_PORT, 120, &longest);
+    assert_eq!(watch.frame(LAST_PORT, &neighbour(70)), Ok(Recorded));
+    watch.has(1, LAST_PORT, 120, &longest);
     // The same one, shorter: zeros follow.
-    assert_eq!(watch.frame(7, &frame(&[])), Ok(Refreshed));
-    watch.has(1, 7, 120, &A);
-    watch.has(2, 7, 120, &lldpdu(&[(CHASSIS, 70)]));
+    assert_eq!(watch.frame(LAST_PORT, &frame(&[])), Ok(Refreshed));
+    watch.has(1, LAST_PORT, 120, &A);
+    watch.has(2, LAST_PORT, 120, &lldpdu(&[(CHASSIS, 70)]));
     // One octet more makes the frame too long (F1).
     let padded = [&HEADER[..], &longest, &[0x00]].concat();
-    watch.refuses(3, |watch| watch.frame(7, &padded).err());
+    watch.refuses(3, |watch| watch.frame(LAST_PORT, &padded).err());
 }
 
 #[test]
@@ -365,8 +408,8 @@ fn goodbyes() {
     let before = watch.clone();
     // Unknown, also where the port holds six or the common places are taken (N7).
     assert_eq!(watch.frame(0, &goodbye(99)), Ok(UnknownGoodbye));
-    assert_eq!(watch.frame(4, &goodbye(99)), Ok(UnknownGoodbye));
-    assert_eq!(watch.frame(7, &goodbye(1)), Ok(UnknownGoodbye));
+    assert_eq!(watch.frame(HALF, &goodbye(99)), Ok(UnknownGoodbye));
+    assert_eq!(watch.frame(LAST_PORT, &goodbye(1)), Ok(UnknownGoodbye));
     assert_eq!(watch, before);
     // A goodbye may carry other fields.
     let laden = frame(&[(CHASSIS, 1), (SECONDS_LOW, 0)]);
@@ -382,8 +425,8 @@ fn frames_from_a_group_address_change_nothing() {
     assert_eq!(watch.seconds(20), Ok(()));
     for (port, frame, due) in [
         (0, neighbour(7), Err(7)),
-        (4, neighbour(43), Err(8)),
-        (5, neighbour(51), Ok(Recorded)),
+        (HALF, neighbour(numbered(HALF, 3)), Err(8)),
+        (HALF + 1, neighbour(numbered(HALF + 1, 1)), Ok(Recorded)),
         (0, neighbour(1), Ok(Refreshed)),
         (0, frame(&[(CHASSIS, 2), (SECONDS_LOW, 0)]), Ok(Gone)),
         (0, goodbye(1), Ok(Gone)),
@@ -398,17 +441,19 @@ fn frames_from_a_group_address_change_nothing() {
 #[test]
 fn the_run_cases() {
     let mut watch = Watch::of_b13();
+    let next = HALF + 1;
+    let third = numbered(HALF, 3);
     watch.refuses(7, |watch| watch.frame(0, &neighbour(7)).err());
-    watch.refuses(8, |watch| watch.frame(4, &neighbour(43)).err());
-    assert_eq!(watch.frame(5, &neighbour(51)), Ok(Recorded));
-    assert_eq!(watch.frame(5, &neighbour(52)), Ok(Recorded));
-    watch.refuses(8, |watch| watch.frame(5, &neighbour(53)).err());
+    watch.refuses(8, |watch| watch.frame(HALF, &neighbour(third)).err());
+    assert_eq!(watch.frame(next, &neighbour(numbered(next, 1))), Ok(Recorded));
+    assert_eq!(watch.frame(next, &neighbour(numbered(next, 2))), Ok(Recorded));
+    watch.refuses(8, |watch| watch.frame(next, &neighbour(numbered(next, 3))).err());
     assert_eq!(watch.frame(0, &goodbye(6)), Ok(Gone));
-    assert_eq!(watch.frame(4, &neighbour(43)), Ok(Recorded));
-    watch.has(5, 4, 120, &lldpdu(&[(CHASSIS, 43)]));
+    assert_eq!(watch.frame(HALF, &neighbour(third)), Ok(Recorded));
+    watch.has(5, HALF, 120, &lldpdu(&[(CHASSIS, third)]));
     assert_eq!(watch.holds(0), Ok(5));
-    assert_eq!(watch.holds(4), Ok(3));
-    assert_eq!(watch.holds(5), Ok(2));
+    assert_eq!(watch.holds(HALF), Ok(3));
+    assert_eq!(watch.holds(next), Ok(2));
 
     let mut watch = Watch::holding(&[(0, 1)]);
     assert_eq!(watch.seconds(119), Ok(()));
@@ -419,22 +464,22 @@ fn the_run_cases() {
 
 #[test]
 fn seven_before_eight() {
-    // The sixteen are taken and the port holds six: 8 needs two to five (R11).
+    // The common places are taken and the port holds six: 8 needs two to five (R11).
     let mut watch = Watch::of_b13();
-    for port in 0..4 {
+    for port in 0..HALF {
         watch.refuses(7, |watch| watch.frame(port, &neighbour(99)).err());
     }
     // A known one is never refused for room (N12).
-    for port in 0..4 {
-        assert_eq!(watch.frame(port, &neighbour(10 * port as u8 + 6)), Ok(Refreshed));
+    for port in 0..HALF {
+        assert_eq!(watch.frame(port, &neighbour(numbered(port, 6))), Ok(Refreshed));
     }
 }
 
 #[test]
 fn the_sure_places_stay_sure() {
-    // Eight ports share the sixteen: four hold six, four hold two, and all places are used.
+    // Half of the ports hold six, the others two, and all places are used.
     let mut watch = Watch::of_b13();
-    for port in [5, 6, 7] {
+    for port in HALF + 1..PORTS {
         assert_eq!(watch.frame(port, &neighbour(1)), Ok(Recorded));
         assert_eq!(watch.frame(port, &neighbour(2)), Ok(Recorded));
         watch.refuses(8, |watch| watch.frame(port, &neighbour(3)).err());
@@ -444,21 +489,40 @@ fn the_sure_places_stay_sure() {
     let mut watch = Watch::holding(&[(3, 6)]);
     watch.refuses(7, |watch| watch.frame(3, &neighbour(9)).err());
     assert_eq!(watch.frame(2, &neighbour(9)), Ok(Recorded));
-    // Other shares of the sixteen: 2 for each port.
-    let mut watch = Watch::holding(&[(0, 4), (1, 4), (2, 4), (3, 4), (4, 4), (5, 4), (6, 4)]);
-    assert_eq!(watch.frame(7, &neighbour(1)), Ok(Recorded));
+    // Other shares of the common places: 2 for each port.
+    let others: Vec<_> = (0..LAST_PORT).map(|port| (port, 4)).collect();
+    let mut watch = Watch::holding(&others);
+    assert_eq!(watch.frame(LAST_PORT, &neighbour(1)), Ok(Recorded));
     assert_eq!(watch.frame(0, &neighbour(5)), Ok(Recorded));
-    assert_eq!(watch.frame(7, &neighbour(2)), Ok(Recorded));
-    assert_eq!(watch.frame(7, &neighbour(3)), Ok(Recorded));
-    for port in [0, 1, 2, 3, 4, 5, 6, 7] {
+    assert_eq!(watch.frame(LAST_PORT, &neighbour(2)), Ok(Recorded));
+    assert_eq!(watch.frame(LAST_PORT, &neighbour(3)), Ok(Recorded));
+    for port in 0..PORTS {
         watch.refuses(8, |watch| watch.frame(port, &neighbour(99)).err());
+    }
+}
+
+/// The others take all common places: half of the ports with six, or all with four and two of them
+/// with one more. Then the port takes its two, which fills the table, and a third is refused (N12).
+#[test]
+fn each_port_takes_its_two_whatever_the_others_hold() {
+    for port in 0..PORTS {
+        for held in [|i| if i <= HALF { 6 } else { 2 }, |i| if i <= 2 { 5 } else { 4 }] {
+            let others = (1..PORTS).map(|i| ((port + i) % PORTS, held(i)));
+            let mut watch = Watch::holding(&others.collect::<Vec<_>>());
+            for number in [1, 2] {
+                assert_eq!(watch.frame(port, &neighbour(numbered(port, number))), Ok(Recorded));
+            }
+            assert_eq!(watch.holds(port), Ok(2));
+            assert_eq!(watch.table.used().count(), PLACES);
+            watch.refuses(8, |watch| watch.frame(port, &neighbour(99)).err());
+        }
     }
 }
 
 #[test]
 fn the_order_of_refusals() {
     let mut watch = Watch::of_b13();
-    for port in [8, 9, 255, 256, 65_536, 1 << 32, usize::MAX] {
+    for port in [PORTS, PORTS + 1, 255, 256, 65_536, 1 << 32, (1 << 32) + LAST_PORT, usize::MAX] {
         watch.refuses(2, |watch| watch.frame(port, &neighbour(1)).err());
         watch.refuses(2, |watch| watch.frame(port, &[]).err());
         watch.refuses(2, |watch| watch.frame(port, &from_a_group(neighbour(1))).err());
@@ -469,7 +533,7 @@ fn the_order_of_refusals() {
     let type_0800 = [&new[..12], &[0x08, 0x00], &new[14..]].concat();
     let six_octets = [&new[..14], &[0x02, 0x06, 0x04, 2, 0, 0, 0, 0], &new[23..]].concat();
     let again = [&new[..49], &[0x06, 0x02, 0x00, 0x78], &new[49..]].concat();
-    for port in [0, 4] {
+    for port in [0, HALF] {
         watch.refuses(3, |watch| watch.frame(port, &type_0800).err());
         watch.refuses(3, |watch| watch.frame(port, &new[..13]).err());
         watch.refuses(3, |watch| watch.frame(port, &from_a_group(six_octets.clone())).err());
@@ -478,7 +542,7 @@ fn the_order_of_refusals() {
         watch.refuses(6, |watch| watch.frame(port, &again).err());
     }
     watch.refuses(7, |watch| watch.frame(0, &new).err());
-    watch.refuses(8, |watch| watch.frame(4, &new).err());
+    watch.refuses(8, |watch| watch.frame(HALF, &new).err());
 }
 
 #[test]
@@ -511,11 +575,12 @@ fn seconds_pass() {
 
 #[test]
 fn a_lost_link_frees_its_port_alone() {
-    let mut watch = Watch::holding(&[(0, 2), (7, 3)]);
+    let mut watch = Watch::holding(&[(0, 2), (LAST_PORT, 3)]);
     assert_eq!(watch.holds(0), Ok(2));
-    assert_eq!(watch.lost(7), Ok(()));
+    assert_eq!(watch.holds(LAST_PORT), Ok(3));
+    assert_eq!(watch.lost(LAST_PORT), Ok(()));
     assert_eq!(watch, Watch::holding(&[(0, 2)]));
-    assert_eq!(watch.lost(7), Ok(()));
+    assert_eq!(watch.lost(LAST_PORT), Ok(()));
     assert_eq!(watch.frame(3, &neighbour(30)), Ok(Recorded));
     assert_eq!(watch.lost(0), Ok(()));
     watch.has(0, 0, 0, &[]);
@@ -573,13 +638,41 @@ fn who_sees_an_address() {
         assert_eq!(watch.sees(eleven, from), Ok(last));
         assert_eq!(watch.sees(twelve, from), Ok(last));
     }
-    for from in [4, 31, 32, 33, 256, 1 << 32, usize::MAX] {
+    for from in [4, LAST_PLACE, PLACES, PLACES + 1, 256, 1 << 32, usize::MAX] {
         assert_eq!(watch.sees(eleven, from), Ok(None));
     }
     assert_eq!(watch.sees([0x02, 0x00, 0x00, 0x00, 0x00, 0x13], 0), Ok(None));
     // The places that are free now are passed over.
     assert_eq!(watch.lost(1), Ok(()));
     assert_eq!(watch.sees(eleven, 0), Ok(last));
+}
+
+#[test]
+fn the_last_place_is_asked_too() {
+    // Interface type 06 and port number 05 see 02-00-00-00-00-11.
+    let basic = [
+        0xFE, 0x0F, 0xE0, 0x27, 0x1A, 0x02, 0x01, 0x06, 0x01, 0x05, 0x01, 0x02, 0x00, 0x00, 0x00,
+        0x00, 0x11,
+    ];
+    let eleven = [0x02, 0x00, 0x00, 0x00, 0x00, 0x11];
+    let others: Vec<_> = (0..LAST_PORT).map(|port| (port, 4)).collect();
+    let mut watch = Watch::holding(&others);
+    for number in [1, 2, 3, 4] {
+        assert_eq!(watch.frame(LAST_PORT, &linked(number, &[&basic])), Ok(Recorded));
+    }
+    let place_from = |watch: &Watch, from| {
+        watch.sees(eleven, from).map(|sighting| sighting.map(|sighting| sighting.place))
+    };
+    assert_eq!(place_from(&watch, 0), Ok(Some(PLACES - 4)));
+    for place in PLACES - 4..PLACES {
+        assert_eq!(place_from(&watch, place), Ok(Some(place)));
+    }
+    for from in [PLACES, PLACES + 1, 256 + LAST_PLACE, (1 << 32) + LAST_PLACE, usize::MAX] {
+        assert_eq!(place_from(&watch, from), Ok(None));
+    }
+    assert_eq!(watch.frame(LAST_PORT, &goodbye(4)), Ok(Gone));
+    assert_eq!(place_from(&watch, LAST_PLACE - 1), Ok(Some(LAST_PLACE - 1)));
+    assert_eq!(place_from(&watch, LAST_PLACE), Ok(None));
 }
 
 /// Extension link information with these octets behind port number 05: p, k, c and so on (T11).
@@ -620,7 +713,7 @@ fn who_sees_an_address_by_either_kind_of_link_information() {
         &[&paired],
     ];
     for (tlvs, number) in records.iter().zip(1..) {
-        let port = usize::from(number) - 1;
+        let port = (usize::from(number) - 1) % PORTS;
         assert_eq!(watch.frame(port, &linked(number, tlvs)), Ok(Recorded));
     }
     let due = [
@@ -632,7 +725,7 @@ fn who_sees_an_address_by_either_kind_of_link_information() {
         (5, sighting(5, 0x47)),
         (6, sighting(6, 0x06)),
         (7, Ok(None)),
-        (32, Ok(None)),
+        (PLACES, Ok(None)),
     ];
     for (from, due) in due {
         assert_eq!(watch.sees(eleven, from), due);
@@ -647,7 +740,7 @@ fn who_sees_an_address_by_either_kind_of_link_information() {
 
 #[test]
 fn free_places_must_be_clear() {
-    for place in [1, 31] {
+    for place in [1, LAST_PLACE] {
         spoiled(|watch| watch.table.port[place] = 1);
         spoiled(|watch| watch.table.seconds[place] = 1);
         for octet in [0, 1, 1499] {
@@ -660,13 +753,13 @@ fn free_places_must_be_clear() {
 
 #[test]
 fn used_places_must_be_sound() {
-    for port in [8, 9, 128, 130, 255] {
-        spoiled(|watch| watch.table.port[0] = port);
+    for port in [PORTS, PORTS + 1, 128, 130, 255] {
+        spoiled(|watch| watch.table.port[0] = port as u8);
     }
     for seconds in [0, 121, 65_535] {
         spoiled(|watch| watch.table.seconds[0] = seconds);
     }
-    for length in [1, 35, 36, 38, 39, 1500, 1501, 48_000, 65_535] {
+    for length in [1, 35, 36, 38, 39, 1500, 1501, 3000, 65_535] {
         spoiled(|watch| watch.table.length[0] = length);
     }
     for (at, octet) in [(0, 0x04), (1, 0x08), (11, 0), (11, 8), (14, 0x03), (17, 0x06), (36, 1)] {
@@ -711,7 +804,7 @@ fn write(watch: &mut Watch, place: usize, port: u8, octets: &[u8]) {
 
 #[test]
 fn no_identity_may_stand_twice() {
-    for place in [1, 31] {
+    for place in [1, LAST_PLACE] {
         spoiled(|watch| write(watch, place, 2, &lldpdu(&[(CHASSIS, 21)])));
         // Other seconds and another category do not make another identity.
         spoiled(|watch| write(watch, place, 2, &lldpdu(&[(CHASSIS, 21), (15, 1), (25, 0x42)])));
@@ -731,7 +824,7 @@ fn a_chassis_that_is_kept_must_be_right() {
         // It may not stand twice.
         spoiled(|watch| {
             write(watch, 1, 3, &record);
-            write(watch, 31, 3, &record);
+            write(watch, LAST_PLACE, 3, &record);
         });
     }
     for chassis in wrong_chassis() {
@@ -757,16 +850,17 @@ fn no_port_may_hold_seven() {
 }
 
 #[test]
-fn the_sum_beyond_two_may_not_be_17() {
-    // Ports 0, 1, 3 and 4 hold six, then port 2 holds three.
+fn the_sum_beyond_two_may_not_pass_the_common_places() {
+    // Half of the ports hold six, others than port 2, and then that one holds three.
+    let others: Vec<u8> = (0..=HALF as u8).filter(|&port| port != 2).collect();
     spoiled(|watch| {
-        for place in 1..25 {
-            let port = [0, 1, 3, 4][place % 4];
-            write(watch, place, port, &lldpdu(&[(CHASSIS, 90 + place as u8)]));
+        for place in 1..=6 * HALF {
+            let port = others[place % HALF];
+            write(watch, place, port, &lldpdu(&[(CHASSIS, place as u8)]));
         }
         assert!(watch.is_fit());
-        write(watch, 30, 2, &lldpdu(&[(CHASSIS, 80)]));
+        write(watch, LAST_PLACE - 1, 2, &lldpdu(&[(CHASSIS, 22)]));
         assert!(watch.is_fit());
-        write(watch, 31, 2, &lldpdu(&[(CHASSIS, 81)]));
+        write(watch, LAST_PLACE, 2, &lldpdu(&[(CHASSIS, 23)]));
     });
 }

@@ -1,6 +1,7 @@
 // What a record does to a table, to the store that its buffer is lent from, and to the octets that were kept of the store.
 // A record is a call (kinds 0 to 5), a preparation without a word (6 to 12), or a spoiled table (13).
 ghost use Prim.Native.Nat.{_<_};
+ghost use Rattle.numbers.specs.Sizes.{places};
 use crate::answers::answer;
 use crate::record::Record;
 use octets::octet;
@@ -26,10 +27,10 @@ fn put(store: &mut [u8], at: usize, b: u8) {
     }
 }
 
-// The bounds keep the products small; places are fewer.
+// The bounds keep the products small.
 fn copy_octets(store: &mut [u8], from: usize, to: usize)
-    requires { ⌜ from < 100 ⌝ }
-    requires { ⌜ to < 100 ⌝ }
+    requires { ⌜ from < places ⌝ }
+    requires { ⌜ to < places ⌝ }
 {
     for i in 0..PLACE {
         let b = octet(store, from * PLACE + i);

@@ -14,7 +14,7 @@ use table::OCTETS;
 const RECORDS: usize = 100000;
 
 // Octets that buffers are lent from: more than a table needs, so that a buffer can be too long.
-const STORE: usize = 50000;
+const STORE: usize = OCTETS + 2000;
 
 // Room for the file and for two stores. Each is a call's result so that no proof has to count its octets.
 fn room() -> [u8; FILE] {

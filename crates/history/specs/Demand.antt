@@ -1,4 +1,4 @@
--- Demand 3 as one record: each field is a sentence of it, of the table t that the history h led to, with n ports.
+-- Demand 3 as one record: each field is a sentence of it, of the table t that the history h led to, with n ports; [ ] has a number that follows from n.
 -- `reply n p x t` is what table t answers to what is heard on port p; `held n h p` is how many neighbours the history gives the port.
 use Prim.Native.Nat.{ℕ, _+_, _≤_, _<_}
 use mathlib.Core.Path.{_≡_}
@@ -34,7 +34,7 @@ pub record New (n : ℕ) (h : History) (p : ℕ) (a : Announcement) : Type 0 whe
   pub unknown : ¬ Neighbour n h (whose p a)
   pub lives : a .seconds ≢ 0
 
--- "the sixteen common places are taken"
+-- "the [2n] common places are taken"
 abbrev pub CommonTaken : ℕ → History → Type 0
 CommonTaken n h = beyond n (held n h) ≡ commonFor n
 
@@ -55,12 +55,12 @@ pub record Demand3 (n : ℕ) (h : History) (t : Places) : Type 0 where
   pub once : Once t
   -- every frame is answered as the history says
   pub answers : (p : ℕ) (x : Heard) → reply n p x t ≡ answer n h p x
-  -- "A port with fewer than two neighbours always gets a valid new one with time to live recorded, whatever the other seven carried."
+  -- "A port with fewer than two neighbours always gets a valid new one with time to live recorded, whatever the other [n - 1] carried."
   pub sure-places : (p : ℕ) (a : Announcement) → New n h p a → held n h p < sure → reply n p (says a) t ≡ Recorded
   -- "No port ever holds more than six."
   pub six : (p : ℕ) → holdsIn t p ≤ most
   pub seventh : (p : ℕ) (a : Announcement) → New n h p a → held n h p ≡ most → reply n p (says a) t ≡ Refused 7
-  -- "A port with two to five is refused such a one exactly when the sixteen common places are taken.": then with 8, else it is recorded
+  -- "A port with two to five is refused such a one exactly when the [2n] common places are taken.": then with 8, else it is recorded
   pub common-places : (p : ℕ) (a : Announcement) → New n h p a → sure ≤ held n h p → held n h p < most
       → (CommonTaken n h → reply n p (says a) t ≡ Refused 8) × (¬ CommonTaken n h → reply n p (says a) t ≡ Recorded)
   -- "A known neighbour is never refused for room."

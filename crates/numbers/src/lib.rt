@@ -6,7 +6,8 @@ ghost use Rattle.numbers.specs.Sizes.{ports};
 ghost use Rattle.numbers.specs.Numbers.{holds, firstFree, sharesOk};
 use rules::Room;
 
-pub const PORTS: usize = 8;
+// At most 63: with 64 there would be 256 places, and `held` counts them in an octet (N1).
+pub const PORTS: usize = 10;
 
 pub const PLACES: usize = 4 * PORTS;
 

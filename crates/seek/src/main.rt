@@ -1,5 +1,5 @@
 // seek: asks who sees an address many times on a full table, so that the time of one call can be measured from outside.
-// Standard input has one octet, the hundreds of calls, then the address, and a frame that 32 neighbours send, whose port IDs differ.
+// Standard input has one octet, the hundreds of calls, then the address, and a frame that a neighbour for each place sends, with a port ID of its own on its port.
 use libc::STDIN_FILENO;
 use libc::STDOUT_FILENO;
 use octets::six;

@@ -6,13 +6,23 @@ use super::Event;
 use crate::frames::blocks::*;
 use crate::id::Id;
 use crate::reader::Address;
-use crate::table::BUFFER_OCTETS;
+use crate::table::{BUFFER_OCTETS, MOST, PORTS, SURE};
 
 /// The source of frame A.
 const STATION: Address = [2, 0, 0, 0, 0, 1];
 
-/// The chassis of the neighbour of a number.
-type Numbered = fn(u8) -> Id;
+/// The ports of B13 below this one hold six, which takes the common places; it holds two itself.
+const HALF: usize = PORTS / 2;
+
+/// The next one takes its two sure places, and the last one holds none.
+const NEXT: usize = HALF + 1;
+const LAST: usize = PORTS - 1;
+
+/// Six for each of the half are all common places, and there are ports for all parts of the run.
+const _: () = assert!(PORTS.is_multiple_of(2) && NEXT < LAST);
+
+/// The chassis of the neighbour of a number on a port.
+type Numbered = fn(usize, usize) -> Id;
 
 impl Maker {
     /// The run cases with the chassis of frame A, and with all kinds of chassis on each port (L3).
@@ -24,21 +34,21 @@ impl Maker {
 
     fn run_cases(&mut self, chassis: Numbered) {
         self.ports_of_b13(chassis);
-        // A seventh on port 0: 7. A third on port 4: 8.
-        self.bench_frame(0, chassis(7), 120);
-        self.bench_frame(4, chassis(43), 120);
-        // Two new ones on port 5: recorded. A third: 8.
-        self.bench_frame(5, chassis(51), 120);
-        self.bench_frame(5, chassis(52), 120);
-        self.bench_frame(5, chassis(53), 120);
-        // A goodbye on port 0, then the third on port 4: recorded.
-        self.bench_frame(0, chassis(6), 0);
-        self.bench_frame(4, chassis(43), 120);
+        // A seventh on the first port: 7. A third on the one that holds two: 8.
+        self.bench_frame(0, chassis(0, 7), 120);
+        self.bench_frame(HALF, chassis(HALF, 3), 120);
+        // Two new ones on the next port: recorded. A third: 8.
+        self.bench_frame(NEXT, chassis(NEXT, 1), 120);
+        self.bench_frame(NEXT, chassis(NEXT, 2), 120);
+        self.bench_frame(NEXT, chassis(NEXT, 3), 120);
+        // A goodbye on the first port, then the third that was refused: recorded.
+        self.bench_frame(0, chassis(0, 6), 0);
+        self.bench_frame(HALF, chassis(HALF, 3), 120);
         self.all_held();
 
         // With 120 seconds left, 119 pass: 1 is left. 1 more passes: the record is gone.
         self.call(Event::Start);
-        self.bench_frame(0, chassis(1), 120);
+        self.bench_frame(0, chassis(0, 1), 120);
         for seconds in [119, 1] {
             self.call(Event::Seconds(seconds));
             self.call(Event::HowMany { port: 0 });
@@ -51,35 +61,37 @@ impl Maker {
         self.call(Event::Seconds(20));
         for source in [NO_STATION, NEAREST, EVERYONE, STATION] {
             // New ones. From a station: 7, 8, recorded.
-            self.frame_from(source, 0, six_octets(7), 120);
-            self.frame_from(source, 4, six_octets(43), 120);
-            self.frame_from(source, 5, six_octets(51), 120);
+            self.frame_from(source, 0, six_octets(0, 7), 120);
+            self.frame_from(source, HALF, six_octets(HALF, 3), 120);
+            self.frame_from(source, NEXT, six_octets(NEXT, 1), 120);
             // A known one and two goodbyes. From a station: refreshed, gone, unknown goodbye.
-            self.frame_from(source, 0, six_octets(1), 120);
-            self.frame_from(source, 1, six_octets(11), 0);
-            self.frame_from(source, 6, six_octets(61), 0);
-            // One that is cut short. From a station: 5.
-            let whole = frame_of(source, six_octets(1), 120);
+            self.frame_from(source, 0, six_octets(0, 1), 120);
+            self.frame_from(source, 1, six_octets(1, 1), 0);
+            self.frame_from(source, LAST, six_octets(LAST, 1), 0);
+            // A wrong chassis, one that is cut short, seconds twice. From a station: 4, 5, 6.
+            self.frame_from(source, 0, address(&[2, 0, 0, 0, 0, 0, 1]), 120);
+            let whole = frame_of(source, six_octets(0, 1), 120);
             self.call(Event::Frame { port: 0, frame: whole[..whole.len() - 1].to_vec() });
+            let twice = Agent::of(six_octets(0, 1)).announcement(120, &[seconds()]);
+            self.call(Event::Frame { port: 0, frame: headed(EVERYONE, source, LLDP, &twice) });
             // 2 and 1 go before 3 (R11).
-            self.frame_from(source, 8, six_octets(1), 120);
+            self.frame_from(source, PORTS, six_octets(0, 1), 120);
             self.call(Event::Lend(BUFFER_OCTETS - 1));
-            self.frame_from(source, 0, six_octets(1), 120);
+            self.frame_from(source, 0, six_octets(0, 1), 120);
             self.call(Event::Lend(BUFFER_OCTETS));
             self.all_held();
         }
     }
 
-    /// Ports 0 to 3 hold six each, port 4 holds two.
+    /// The first half of the ports hold six each, the next port holds two.
     fn ports_of_b13(&mut self, chassis: Numbered) {
         self.call(Event::Start);
-        for port in 0..4 {
-            for number in 1..=6 {
-                self.bench_frame(port, chassis(10 * port as u8 + number), 120);
+        for port in 0..=HALF {
+            let held = if port < HALF { MOST } else { SURE };
+            for number in 1..=held {
+                self.bench_frame(port, chassis(port, number), 120);
             }
         }
-        self.bench_frame(4, chassis(41), 120);
-        self.bench_frame(4, chassis(42), 120);
         self.all_held();
     }
 
@@ -91,8 +103,9 @@ impl Maker {
         self.call(Event::Frame { port, frame: frame_of(source, chassis, seconds) });
     }
 
+    /// What each port holds, and the refusal for the number behind the last.
     fn all_held(&mut self) {
-        for port in 0..9 {
+        for port in 0..=PORTS {
             self.call(Event::HowMany { port });
         }
     }
@@ -105,14 +118,15 @@ fn frame_of(source: Address, chassis: Id, seconds: u16) -> Vec<u8> {
     headed(EVERYONE, source, LLDP, &lldpdu)
 }
 
-fn six_octets(number: u8) -> Id {
-    address(&[2, 0, 0, 0, 0, number])
+/// Other octets for each neighbour; the first one of port 0 has those of frame A.
+fn six_octets(port: usize, number: usize) -> Id {
+    address(&[2, 0, 0, 0, port as u8, number as u8])
 }
 
-fn each_kind_in_turn(number: u8) -> Id {
-    match number % 3 {
-        0 => six_octets(number),
-        1 => address(&[2, 0, 0, 0, 0, number, 0, 0]),
-        _ => local(format!("{number:02X}").as_bytes()),
+fn each_kind_in_turn(port: usize, number: usize) -> Id {
+    match (port + number) % 3 {
+        0 => six_octets(port, number),
+        1 => address(&[2, 0, 0, 0, port as u8, number as u8, 0, 0]),
+        _ => local(format!("{port:02X}{number:02X}").as_bytes()),
     }
 }

@@ -3,10 +3,24 @@
 
 use super::{Event, Trial};
 use crate::frames::or_refused;
-use crate::table::{octets_of, Reply, Sighting, Table, BUFFER_OCTETS};
+use crate::table::{
+    buffer_octets, octets_of, Reply, Sighting, Table, BUFFER_OCTETS, PLACE_OCTETS, PORTS,
+};
 
 /// More than a table needs, so that a buffer can be lent that is too long.
-pub const STORE_OCTETS: usize = 50_000;
+pub const STORE_OCTETS: usize = BUFFER_OCTETS + 2_000;
+
+/// Buffers that are no table's: none, an octet, that of a cell with two ports fewer, a place or an
+/// octet too few, and as many too many (N5, N6).
+pub const WRONG_LENGTHS: [usize; 7] = [
+    0,
+    1,
+    buffer_octets(PORTS - 2),
+    BUFFER_OCTETS - PLACE_OCTETS,
+    BUFFER_OCTETS - 1,
+    BUFFER_OCTETS + 1,
+    BUFFER_OCTETS + PLACE_OCTETS,
+];
 
 const DIGEST_MODULUS: u64 = 4_294_967_291;
 

@@ -1,30 +1,31 @@
 //! Random sequences of calls: frames of few agents on few ports, time, lost links, questions.
 //! Some sequences begin in a crowd, and each ends with a table that can be spoiled.
 
+use super::desk::WRONG_LENGTHS;
+use super::last::NO_PORTS;
 use super::maker::{Agent, Maker};
 use super::Event;
 use crate::frames::blocks::*;
 use crate::frames::hex;
 use crate::id::Id;
-use crate::table::{BUFFER_OCTETS, COMMON, MOST, PLACE_OCTETS, PORTS, SURE};
+use crate::table::{BUFFER_OCTETS, COMMON, MOST, PLACES, PLACE_OCTETS, PORTS, SURE};
 
 const SEQUENCES: usize = 64;
 const CALLS: usize = 44;
-
-const ALL_PORTS: [usize; PORTS] = [0, 1, 2, 3, 4, 5, 6, 7];
 
 impl Maker {
     pub fn sequences(&mut self) {
         for round in 0..SEQUENCES {
             self.call(Event::Start);
-            let mut ports = ALL_PORTS;
+            let mut ports = all_ports();
             self.rng().shuffle(&mut ports);
-            let ports = &ports[..2 + round % 7];
+            // From two ports up to all of them, with each way to begin.
+            let ports = &ports[..2 + round / 6 % (PORTS - 1)];
             match round % 6 {
                 1 => self.fill_all_places(),
                 2 => self.fill_a_port(ports[0]),
                 3 => {
-                    self.take_the_common(&ALL_PORTS);
+                    self.take_the_common(&all_ports());
                     self.one_more_of_each_kind();
                 }
                 4 => self.fill_whole_places(ports),
@@ -42,14 +43,15 @@ impl Maker {
         }
     }
 
-    /// Two on every port, then any of them up to the sixteen, then one more for each port (N12).
+    /// Two on every port, then any of them until the common places are taken, then one more for
+    /// each port (N12).
     fn fill_all_places(&mut self) {
-        for port in ALL_PORTS {
+        for port in all_ports() {
             self.hear_somebody_new(port);
             self.hear_somebody_new(port);
         }
-        self.take_the_common(&ALL_PORTS);
-        for port in ALL_PORTS {
+        self.take_the_common(&all_ports());
+        for port in all_ports() {
             self.hear_somebody_new(port);
             self.call(Event::HowMany { port });
         }
@@ -62,7 +64,7 @@ impl Maker {
         }
     }
 
-    /// New ones on some of the ports until the sixteen are taken.
+    /// New ones on some of the ports until the common places are taken.
     fn take_the_common(&mut self, ports: &[usize]) {
         while self.desk.table.common_taken() < COMMON {
             let port = self.rng().pick(ports);
@@ -108,7 +110,7 @@ impl Maker {
         if !self.rng().once_in(30) {
             return self.call(event);
         }
-        let octets = self.rng().pick(&[0, 1, 46_500, 47_999, 48_001, 49_500]);
+        let octets = self.rng().pick(&WRONG_LENGTHS);
         self.call(Event::Lend(octets));
         self.call(event);
         self.call(Event::Start);
@@ -132,7 +134,7 @@ impl Maker {
     /// Mostly one of the given ports, and now and then none at all (R2).
     pub fn random_port(&mut self, ports: &[usize]) -> usize {
         match self.rng().below(24) {
-            0 => self.rng().pick(&[8, 9, 255, 256, 65_536, usize::MAX]),
+            0 => self.rng().pick(&NO_PORTS),
             // Low bits that are a port.
             1 => self.rng().pick(&[1 << 8, 1 << 16, 1 << 32, 1 << 63]) + self.rng().below(PORTS),
             2 => self.rng().below(PORTS),
@@ -140,13 +142,13 @@ impl Maker {
         }
     }
 
-    /// A place from 0 to 31, or one behind the last (N11).
+    /// One of the places, or a number behind the last (N11).
     pub fn random_start(&mut self) -> usize {
         match self.rng().below(12) {
             0..=4 => 0,
-            5..=8 => self.rng().below(32),
-            9 => self.rng().pick(&[31, 32, 33]),
-            10 => self.rng().pick(&[64, 256, 65_536, 1 << 32, usize::MAX]),
+            5..=8 => self.rng().below(PLACES),
+            9 => self.rng().pick(&[PLACES - 1, PLACES, PLACES + 1]),
+            10 => self.rng().pick(&[2 * PLACES, 256, 65_536, 1 << 32, usize::MAX]),
             _ => self.rng().word() as usize,
         }
     }
@@ -313,7 +315,7 @@ impl Maker {
         self.hear(port, long_announcement(&agent, PLACE_OCTETS));
     }
 
-    /// A port holds six, and not all sixteen are taken: a seventh would break one condition alone.
+    /// A port holds six, and common places are left: a seventh would break one condition alone.
     fn end_with_six(&mut self) {
         let (port, others) = self.one_and_the_others();
         for &other in &others {
@@ -327,27 +329,31 @@ impl Maker {
         self.hear_somebody_new(others[0]);
     }
 
-    /// The sixteen are taken, some places are free, and some port holds two to five.
+    /// The common places are taken, others are free, and some port holds two to five.
     fn end_with_the_common_taken(&mut self) {
         let (port, others) = self.one_and_the_others();
         self.call(Event::Lost { port });
         self.take_the_common(&others);
         while self.ports_holding(SURE, MOST - 1).is_empty() {
-            // Four ports hold six, and the other four fewer than two.
+            // Half of the ports hold six, and the others fewer than two.
             let port = self.ports_holding(0, SURE - 1)[0];
             self.hear_somebody_new(port);
         }
     }
 
     fn one_and_the_others(&mut self) -> (usize, Vec<usize>) {
-        let mut ports = ALL_PORTS;
+        let mut ports = all_ports();
         self.rng().shuffle(&mut ports);
         (ports[0], ports[1..].to_vec())
     }
 }
 
+fn all_ports() -> [usize; PORTS] {
+    std::array::from_fn(|port| port)
+}
+
 /// An LLDPDU of so many octets: TLVs of a type that is skipped fill it up.
-fn long_announcement(agent: &Agent, octets: usize) -> Vec<u8> {
+pub fn long_announcement(agent: &Agent, octets: usize) -> Vec<u8> {
     let fixed = agent.announcement(600, &[]).len();
     let mut rest = octets - fixed;
     let mut later = Vec::new();

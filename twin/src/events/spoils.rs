@@ -6,7 +6,9 @@ use super::maker::{Agent, Maker};
 use super::{Event, Trial};
 use crate::frames::blocks::{from_a_group, leading_of, pool};
 use crate::reader::outline_lldpdu;
-use crate::table::{octets_of, BUFFER_OCTETS, COMMON, MOST, PLACE_OCTETS, PORTS, SURE};
+use crate::table::{
+    buffer_octets, octets_of, BUFFER_OCTETS, COMMON, MOST, PLACE_OCTETS, PORTS, SURE,
+};
 
 /// How often a proposal is made before a kept table is given up.
 const PROPOSALS: usize = 80;
@@ -19,7 +21,7 @@ pub enum Way {
     FreePort,
     FreeSeconds,
     FreeOctet,
-    PortAboveSeven,
+    PortBehindTheLast,
     LengthAbove1500,
     AnotherLength,
     InvalidLldpdu,
@@ -29,12 +31,12 @@ pub enum Way {
     TooManySecondsLeft,
     IdentityTwice,
     SevenOnAPort,
-    SeventeenBeyondTwo,
+    OneBeyondTheCommon,
 }
 
 impl Way {
     /// Every way, the condition of N5 that it breaks, and how many tables are spoiled so after a
-    /// sequence. The last two ways need a port with six, or the sixteen taken, which not all
+    /// sequence. The last two ways need a port with six, or the common places taken, which not all
     /// sequences end with.
     pub const ALL: [(Way, char, usize); 17] = [
         (Way::ShorterBuffer, 'a', 5),
@@ -43,7 +45,7 @@ impl Way {
         (Way::FreePort, 'b', 5),
         (Way::FreeSeconds, 'b', 5),
         (Way::FreeOctet, 'b', 5),
-        (Way::PortAboveSeven, 'c', 5),
+        (Way::PortBehindTheLast, 'c', 5),
         (Way::LengthAbove1500, 'c', 5),
         (Way::AnotherLength, 'c', 5),
         (Way::InvalidLldpdu, 'c', 5),
@@ -53,7 +55,7 @@ impl Way {
         (Way::TooManySecondsLeft, 'c', 5),
         (Way::IdentityTwice, 'd', 6),
         (Way::SevenOnAPort, 'e', 8),
-        (Way::SeventeenBeyondTwo, 'f', 15),
+        (Way::OneBeyondTheCommon, 'f', 15),
     ];
 
     /// The condition of N5 that is broken.
@@ -93,7 +95,7 @@ impl Maker {
     /// past the last place (R11).
     fn trial(&mut self, way: Way) -> Trial {
         let number = match self.rng().below(6) {
-            0 => self.random_port(&[8]),
+            0 => self.random_port(&[PORTS]),
             1 => self.random_start(),
             _ => self.rng().below(PORTS),
         };
@@ -120,17 +122,14 @@ impl Maker {
 
     fn proposal(&mut self, way: Way) -> Option<Vec<Event>> {
         match way {
-            Way::ShorterBuffer => {
-                let some = self.rng().between(1, BUFFER_OCTETS - 1);
-                let octets = self.rng().pick(&[1, 1_500, 24_000, 46_500, 47_999, some]);
-                Some(vec![Event::Lend(octets)])
-            }
+            Way::ShorterBuffer => Some(vec![self.shorter_buffer()]),
             Way::LongerBuffer => Some(self.longer_buffer()),
             Way::EmptyBuffer => Some(vec![Event::Lend(0)]),
             Way::FreePort => {
                 let place = self.any_free()?;
-                let some = self.rng().between(1, 255) as u8;
-                Some(vec![Event::SetPort { place, port: self.rng().pick(&[1, 7, 8, 255, some]) }])
+                let some = self.rng().between(1, 255);
+                let port = self.rng().pick(&[1, PORTS - 1, PORTS, 255, some]) as u8;
+                Some(vec![Event::SetPort { place, port }])
             }
             Way::FreeSeconds => {
                 let place = self.any_free()?;
@@ -139,13 +138,7 @@ impl Maker {
                 Some(vec![Event::SetSeconds { place, seconds }])
             }
             Way::FreeOctet => self.free_octet(),
-            Way::PortAboveSeven => {
-                let place = self.any_used()?;
-                let low = self.desk.table.port[place];
-                let some = self.rng().between(8, 255) as u8;
-                let port = self.rng().pick(&[8, 9, 255, low | 8, low | 128, some]);
-                Some(vec![Event::SetPort { place, port }])
-            }
+            Way::PortBehindTheLast => self.port_behind_the_last(),
             Way::LengthAbove1500 => self.length_above_1500(),
             Way::AnotherLength => self.another_length(),
             Way::InvalidLldpdu => self.invalid_lldpdu(),
@@ -167,7 +160,7 @@ impl Maker {
                 let ports = self.ports_holding(MOST, MOST);
                 self.one_more_on(&ports)
             }
-            Way::SeventeenBeyondTwo => {
+            Way::OneBeyondTheCommon => {
                 if self.desk.table.common_taken() < COMMON {
                     return None;
                 }
@@ -183,10 +176,25 @@ impl Maker {
         Event::SetOctet { at, octet: self.rng().pick(&[1, 0x80, 0xFF, some]) }
     }
 
+    /// Fewer octets: among others those of one place, of half of the places, of a cell with two
+    /// ports fewer, and of all places but one.
+    fn shorter_buffer(&mut self) -> Event {
+        Event::Lend(match self.rng().below(7) {
+            0 => 1,
+            1 => PLACE_OCTETS,
+            2 => BUFFER_OCTETS / 2,
+            3 => buffer_octets(PORTS - 2),
+            4 => BUFFER_OCTETS - PLACE_OCTETS,
+            5 => BUFFER_OCTETS - 1,
+            _ => self.rng().between(1, BUFFER_OCTETS - 1),
+        })
+    }
+
     /// More octets, zeros or with one that is not.
     fn longer_buffer(&mut self) -> Vec<Event> {
-        let some = self.rng().between(BUFFER_OCTETS + 1, STORE_OCTETS);
-        let octets = self.rng().pick(&[48_001, 48_002, 49_500, STORE_OCTETS, some]);
+        let most = STORE_OCTETS - BUFFER_OCTETS;
+        let some = self.rng().between(1, most);
+        let octets = BUFFER_OCTETS + self.rng().pick(&[1, 2, PLACE_OCTETS, most, some]);
         let lend = Event::Lend(octets);
         if self.rng().once_in(2) {
             return vec![lend];
@@ -211,6 +219,17 @@ impl Maker {
         Some(vec![self.octet_becomes(octets_of(place).start + octet)])
     }
 
+    /// The next numbers, one with the same low bits, or any.
+    fn port_behind_the_last(&mut self) -> Option<Vec<Event>> {
+        let place = self.any_used()?;
+        let low = usize::from(self.desk.table.port[place]);
+        let some = self.rng().between(PORTS, 255);
+        let near = [PORTS, PORTS + 1, low | PORTS.next_power_of_two()];
+        let far = [low | 128, 255, some];
+        let port = self.rng().pick(&[near, far].concat()) as u8;
+        Some(vec![Event::SetPort { place, port }])
+    }
+
     /// A length that the place has no room for. Where an LLDPDU fills its place, it may even look
     /// whole: its End becomes a TLV of L = 0, and the next place, being free, begins with an End.
     fn length_above_1500(&mut self) -> Option<Vec<Event>> {
@@ -231,7 +250,9 @@ impl Maker {
         let place = self.any_used()?;
         let some = self.rng().between(PLACE_OCTETS + 1, 65_535) as u16;
         let wrapped = self.desk.table.length[place] + 2048;
-        let length = self.rng().pick(&[1_501, 1_502, 3_000, 48_000, 65_535, wrapped, some]);
+        // The whole buffer, as far as a length can say it.
+        let whole = BUFFER_OCTETS.min(65_535) as u16;
+        let length = self.rng().pick(&[1_501, 1_502, 3_000, whole, 65_535, wrapped, some]);
         Some(vec![Event::SetLength { place, length }])
     }
 
