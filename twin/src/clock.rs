@@ -3,7 +3,7 @@
 //! compared.
 
 use crate::reader::Address;
-use crate::table::{Table, BUFFER_OCTETS, PLACES, PORTS};
+use crate::table::{Table, BUFFER_OCTETS, OF_EACH_PORT, PLACES};
 
 /// Octets past these are not read: the hundreds, the address and the longest frame (F1).
 const SEEK_OCTETS: usize = 1 + 6 + 1514;
@@ -11,9 +11,6 @@ const SEEK_OCTETS: usize = 1 + 6 + 1514;
 /// Where the frame begins, and where its port ID has its octet if it starts as frame A does.
 const FRAME: usize = 7;
 const PORT_ID: usize = 33;
-
-/// How many neighbours of each port make the table full (N1).
-const OF_EACH_PORT: usize = PLACES / PORTS;
 
 /// Octets past these are not read: the thousands, the address and sixteen of the longest
 /// information strings (L1).
@@ -99,6 +96,7 @@ mod tests {
     use crate::frames::blocks::{
         headed, leading, link, link_claiming, lldpdu, neighbour, Tlv, EVERYONE, LLDP, SOUGHT,
     };
+    use crate::table::{LAST_PLACE, PORTS};
 
     /// Seek's input: the hundreds, an address, and a frame that names the one that is sought.
     fn seek_input(hundreds: u8, address: Address) -> Vec<u8> {
@@ -132,8 +130,8 @@ mod tests {
     fn what_seek_makes_of_an_answer() {
         let (table, mut buffer) = filled(&mut seek_input(0, SOUGHT));
         let from = |place| seen(&table, &buffer, SOUGHT, place);
-        let last = PLACES - 1;
-        assert_eq!([from(0), from(1), from(last), from(PLACES)], [512, 513, 512 + last, 0]);
+        let starts = [0, 1, LAST_PLACE, PLACES];
+        assert_eq!(starts.map(from), [512, 513, 512 + LAST_PLACE, 0]);
         assert_eq!(seen(&table, &buffer, neighbour(2), 0), 0);
         buffer.pop();
         assert_eq!(seen(&table, &buffer, SOUGHT, 0), 1024);

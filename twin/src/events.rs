@@ -117,8 +117,8 @@ pub(crate) mod tests {
     use crate::frames::blocks::{from_a_group, from_a_station, HEADER};
     use crate::id::Id;
     use crate::table::{
-        buffer_octets, octets_of, places, Table, BUFFER_OCTETS, COMMON, MOST, PLACES, PLACE_OCTETS,
-        PORTS,
+        buffer_octets, octets_of, places, Table, BUFFER_OCTETS, COMMON, LAST_PLACE, MOST, PLACES,
+        PLACE_OCTETS, PORTS,
     };
     use std::collections::HashSet;
     use std::mem;
@@ -265,11 +265,10 @@ pub(crate) mod tests {
     #[test]
     fn no_start_around_the_end_is_missing() {
         let calls = calls();
-        let last = PLACES - 1;
         let answers = |free: &[usize], start: usize| -> Vec<&str> {
             let asked = |call: &&Call| {
                 let Call { event, before, octets, .. } = call;
-                let mut last_ports = before.port[BEHIND_A_SMALLER_CELL..last].iter();
+                let mut last_ports = before.port[BEHIND_A_SMALLER_CELL..LAST_PLACE].iter();
                 matches!(event, Event::WhoSees { from, .. } if *from == start)
                     && *octets == BUFFER_OCTETS
                     && before.free().eq(free.iter().copied())
@@ -285,9 +284,10 @@ pub(crate) mod tests {
             let answers = answers(free, start);
             !answers.is_empty() && answers.iter().all(|&answer| answer == "nobody")
         };
-        assert!(sees(&[], last - 1) && sees(&[], last));
+        let [before, last] = [LAST_PLACE - 1, LAST_PLACE];
+        assert!(sees(&[], before) && sees(&[], last));
         assert!([PLACES, PLACES + 1, usize::MAX].iter().all(|&start| nobody_sees(&[], start)));
-        assert!(sees(&[last], last - 1) && nobody_sees(&[last], last));
+        assert!(sees(&[last], before) && nobody_sees(&[last], last));
     }
 
     /// Each of the six calls is refused with a buffer of each wrong length, that of a cell with two
@@ -397,7 +397,7 @@ pub(crate) mod tests {
                 let places = spoiled_places(desk);
                 let (_, behind, last) = &mut counts[trial.way as usize];
                 *behind += usize::from(places.iter().any(|&place| place >= BEHIND_A_SMALLER_CELL));
-                *last += usize::from(places.contains(&(PLACES - 1)));
+                *last += usize::from(places.contains(&LAST_PLACE));
             }
         });
         println!("{counts:?}");

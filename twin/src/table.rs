@@ -8,9 +8,14 @@ use crate::reader::{name_link, outline_frame, outline_lldpdu, Address, Naming, O
 
 /// The number of ports, which is n in the rules. All sizes of the table follow from it (N1).
 pub const PORTS: usize = 10;
+pub const LAST_PORT: usize = PORTS - 1;
 pub const PLACES: usize = places(PORTS);
+pub const LAST_PLACE: usize = PLACES - 1;
 pub const PLACE_OCTETS: usize = 1500;
 pub const BUFFER_OCTETS: usize = buffer_octets(PORTS);
+
+/// Where each port holds so many, the table is full (N1).
+pub const OF_EACH_PORT: usize = 4;
 
 /// What a port holds is counted in an octet (N1).
 const _: () = assert!(PORTS >= 1 && PORTS <= 63);
@@ -29,7 +34,7 @@ const COMMON_TAKEN: Refusal = 8;
 
 /// The places of a cell with so many ports (N1).
 pub const fn places(ports: usize) -> usize {
-    4 * ports
+    OF_EACH_PORT * ports
 }
 
 /// The octets of its buffer (N1).

@@ -8,13 +8,11 @@ use page::*;
 use twin::id::Id;
 use twin::reader::{Counted, Naming, Refusal};
 use twin::table::{
-    buffer_octets, common, places, Reply, Sighting, Table, BUFFER_OCTETS, PLACES, PORTS,
+    buffer_octets, common, places, Reply, Sighting, Table, BUFFER_OCTETS, LAST_PLACE, LAST_PORT,
+    PLACES, PORTS,
 };
 
 use Reply::{Gone, Recorded, Refreshed, UnknownGoodbye};
-
-const LAST_PORT: usize = PORTS - 1;
-const LAST_PLACE: usize = PLACES - 1;
 
 /// With six on each of so many ports all common places are taken; the number of ports is even.
 const HALF: usize = PORTS / 2;

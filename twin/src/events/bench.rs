@@ -6,7 +6,7 @@ use super::Event;
 use crate::frames::blocks::*;
 use crate::id::Id;
 use crate::reader::Address;
-use crate::table::{BUFFER_OCTETS, MOST, PORTS, SURE};
+use crate::table::{BUFFER_OCTETS, LAST_PORT, MOST, PORTS, SURE};
 
 /// The source of frame A.
 const STATION: Address = [2, 0, 0, 0, 0, 1];
@@ -14,12 +14,11 @@ const STATION: Address = [2, 0, 0, 0, 0, 1];
 /// The ports of B13 below this one hold six, which takes the common places; it holds two itself.
 const HALF: usize = PORTS / 2;
 
-/// The next one takes its two sure places, and the last one holds none.
+/// The next one takes its two sure places; the last port is another and holds none.
 const NEXT: usize = HALF + 1;
-const LAST: usize = PORTS - 1;
 
 /// Six for each of the half are all common places, and there are ports for all parts of the run.
-const _: () = assert!(PORTS.is_multiple_of(2) && NEXT < LAST);
+const _: () = assert!(PORTS.is_multiple_of(2) && NEXT < LAST_PORT);
 
 /// The chassis of the neighbour of a number on a port.
 type Numbered = fn(usize, usize) -> Id;
@@ -67,7 +66,7 @@ impl Maker {
             // A known one and two goodbyes. From a station: refreshed, gone, unknown goodbye.
             self.frame_from(source, 0, six_octets(0, 1), 120);
             self.frame_from(source, 1, six_octets(1, 1), 0);
-            self.frame_from(source, LAST, six_octets(LAST, 1), 0);
+            self.frame_from(source, LAST_PORT, six_octets(LAST_PORT, 1), 0);
             // A wrong chassis, one that is cut short, seconds twice. From a station: 4, 5, 6.
             self.frame_from(source, 0, address(&[2, 0, 0, 0, 0, 0, 1]), 120);
             let whole = frame_of(source, six_octets(0, 1), 120);

@@ -7,7 +7,7 @@ use crate::frames::blocks::*;
 use crate::frames::shape::*;
 use crate::id::Id;
 use crate::reader::Address;
-use crate::table::{MOST, PLACES, PLACE_OCTETS, PORTS};
+use crate::table::{LAST_PLACE, LAST_PORT, MOST, PLACES, PLACE_OCTETS, PORTS};
 
 /// The addresses that the histories ask for: the first two are named often, the last never.
 const ASKED: [Address; 4] = [SOUGHT, [2, 0, 0, 0, 0x20, 1], [2, 0, 0, 0, 0x20, 11], NEAREST];
@@ -55,7 +55,7 @@ impl Maker {
             let announcement = numbered(number as u8).announcement(seconds, tlvs);
             self.hear(usize::from(number) % PORTS, announcement);
         }
-        let starts: Vec<usize> = (0..=count).chain([PLACES - 1, PLACES, 1 << 32]).collect();
+        let starts: Vec<usize> = (0..=count).chain([LAST_PLACE, PLACES, 1 << 32]).collect();
         self.who_sees_each(&starts);
         for port in [0, 3, 5] {
             self.call(Event::Lost { port });
@@ -65,12 +65,11 @@ impl Maker {
         self.who_sees_each(&[0, 5, 9]);
         // New ones on the last port take the freed places, the lowest first. It holds some
         // already, so that not all of them find room (R7).
-        let port = PORTS - 1;
         for (tlvs, number) in records[records.len() - MOST..].iter().zip(50..) {
-            self.hear(port, numbered(number).announcement(300, tlvs));
+            self.hear(LAST_PORT, numbered(number).announcement(300, tlvs));
             self.who_sees_each(&[0, 4]);
         }
-        self.call(Event::HowMany { port });
+        self.call(Event::HowMany { port: LAST_PORT });
     }
 
     /// A refresh brings other fields, and a goodbye with fields frees the place all the same (N7).

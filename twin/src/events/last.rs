@@ -6,17 +6,13 @@ use super::maker::{Agent, Maker};
 use super::random::long_announcement;
 use super::Event;
 use crate::frames::blocks::*;
-use crate::table::{BUFFER_OCTETS, MOST, PLACES, PLACE_OCTETS, PORTS};
+use crate::table::{
+    BUFFER_OCTETS, LAST_PLACE, LAST_PORT, MOST, OF_EACH_PORT, PLACES, PLACE_OCTETS, PORTS,
+};
 
 /// Numbers that are no port, alone or with low bits that are one (R2).
 pub const NO_PORTS: [usize; 7] =
-    [PORTS, PORTS + 1, 255, 256, 65_536, (1 << 32) + PORTS - 1, usize::MAX];
-
-const LAST_PORT: usize = PORTS - 1;
-const LAST_PLACE: usize = PLACES - 1;
-
-/// How many neighbours of each port make the table full (N1).
-const OF_EACH_PORT: usize = PLACES / PORTS;
+    [PORTS, PORTS + 1, 255, 256, 65_536, (1 << 32) + LAST_PORT, usize::MAX];
 
 impl Maker {
     pub fn last_ports_and_places(&mut self) {

@@ -8,7 +8,7 @@ use super::Event;
 use crate::frames::blocks::*;
 use crate::frames::hex;
 use crate::id::Id;
-use crate::table::{BUFFER_OCTETS, COMMON, MOST, PLACES, PLACE_OCTETS, PORTS, SURE};
+use crate::table::{BUFFER_OCTETS, COMMON, LAST_PLACE, MOST, PLACES, PLACE_OCTETS, PORTS, SURE};
 
 const SEQUENCES: usize = 64;
 const CALLS: usize = 44;
@@ -147,7 +147,7 @@ impl Maker {
         match self.rng().below(12) {
             0..=4 => 0,
             5..=8 => self.rng().below(PLACES),
-            9 => self.rng().pick(&[PLACES - 1, PLACES, PLACES + 1]),
+            9 => self.rng().pick(&[LAST_PLACE, PLACES, PLACES + 1]),
             10 => self.rng().pick(&[2 * PLACES, 256, 65_536, 1 << 32, usize::MAX]),
             _ => self.rng().word() as usize,
         }

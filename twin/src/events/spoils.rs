@@ -7,7 +7,7 @@ use super::{Event, Trial};
 use crate::frames::blocks::{from_a_group, leading_of, pool};
 use crate::reader::outline_lldpdu;
 use crate::table::{
-    buffer_octets, octets_of, BUFFER_OCTETS, COMMON, MOST, PLACE_OCTETS, PORTS, SURE,
+    buffer_octets, octets_of, BUFFER_OCTETS, COMMON, LAST_PORT, MOST, PLACE_OCTETS, PORTS, SURE,
 };
 
 /// How often a proposal is made before a kept table is given up.
@@ -128,7 +128,7 @@ impl Maker {
             Way::FreePort => {
                 let place = self.any_free()?;
                 let some = self.rng().between(1, 255);
-                let port = self.rng().pick(&[1, PORTS - 1, PORTS, 255, some]) as u8;
+                let port = self.rng().pick(&[1, LAST_PORT, PORTS, 255, some]) as u8;
                 Some(vec![Event::SetPort { place, port }])
             }
             Way::FreeSeconds => {
