@@ -1,11 +1,13 @@
 //! The events: the run cases, frames from group addresses, neighbours much like each other, the last
-//! ports and places, random sequences of calls on the table, spoiled tables, and records with
-//! extension link information. The case file and the text that is expected for it are made here.
+//! ports and places, senders, random sequences of calls on the table, spoiled tables, and records
+//! with extension link information. The case file and the text that is expected for it are made
+//! here.
 //!
 //! A spoiled table is made in this way. Events have led to a table that is fit, and it is kept.
-//! Edits follow: a number of a place or an octet becomes another one, a place is copied to another
-//! place, or the buffer given has fewer or more octets. Each of the six calls is tried on what that
-//! makes. Then the kept table is taken back, so that many are spoiled after one sequence.
+//! Edits follow: a number or the sender of a place or an octet becomes another one, a place is
+//! copied to another place, or the buffer given has fewer or more octets. Each of the six calls is
+//! tried on what that makes. Then the kept table is taken back, so that many are spoiled after one
+//! sequence. Some edits of senders spoil nothing, and calls follow as on any table.
 
 mod bench;
 mod chassis;
@@ -14,6 +16,7 @@ mod extension;
 mod last;
 mod maker;
 mod random;
+mod sender;
 mod spoils;
 
 use crate::frames::two_octets;
@@ -36,6 +39,7 @@ pub enum Event {
     SetPort { place: usize, port: u8 },
     SetSeconds { place: usize, seconds: u16 },
     SetLength { place: usize, length: u16 },
+    SetSender { place: usize, sender: Address },
     SetOctet { at: usize, octet: u8 },
     CopyPlace { from: usize, to: usize },
     Keep,
@@ -61,6 +65,7 @@ pub fn events() -> Vec<Event> {
     maker.frames_from_group_addresses();
     maker.chassis();
     maker.last_ports_and_places();
+    maker.senders();
     maker.sequences();
     maker.extensions();
     maker.events
@@ -82,11 +87,12 @@ pub fn case_file(events: &[Event]) -> Vec<u8> {
         Event::SetPort { place, port } => record(7, place, u16::from(port), none, &[]),
         Event::SetSeconds { place, seconds } => record(8, place, seconds, none, &[]),
         Event::SetLength { place, length } => record(9, place, length, none, &[]),
-        Event::SetOctet { at, octet } => record(10, at, u16::from(octet), none, &[]),
-        Event::CopyPlace { from, to } => record(11, from, to as u16, none, &[]),
-        Event::Keep => record(12, 0, 0, none, &[]),
+        Event::SetSender { place, sender } => record(10, place, 0, sender, &[]),
+        Event::SetOctet { at, octet } => record(11, at, u16::from(octet), none, &[]),
+        Event::CopyPlace { from, to } => record(12, from, to as u16, none, &[]),
+        Event::Keep => record(13, 0, 0, none, &[]),
         Event::Spoiled(Trial { number, seconds, address, ref frame, .. }) => {
-            record(13, number, seconds, address, frame)
+            record(14, number, seconds, address, frame)
         }
     };
     events.iter().flat_map(record).collect()
@@ -99,7 +105,7 @@ fn record(kind: u8, number: usize, value: u16, address: Address, octets: &[u8]) 
 }
 
 /// The expected text: a line for each call and each spoiled table, with the number of its record
-/// (from 1), the answer and the digest of numbers and buffer. Other records have no line.
+/// (from 1), the answer and the digest of numbers, senders and buffer. Other records have no line.
 pub fn expected(events: &[Event]) -> String {
     let mut desk = Desk::new();
     let mut text = String::new();
@@ -114,7 +120,7 @@ pub fn expected(events: &[Event]) -> String {
 #[cfg(test)]
 pub(crate) mod tests {
     use super::*;
-    use crate::frames::blocks::{from_a_group, from_a_station, HEADER};
+    use crate::frames::blocks::{from_a_group, from_a_station, stations, HEADER};
     use crate::id::Id;
     use crate::table::{
         buffer_octets, octets_of, places, Table, BUFFER_OCTETS, COMMON, LAST_PLACE, MOST, PLACES,
@@ -347,6 +353,56 @@ pub(crate) mod tests {
         assert!(counts.iter().all(|&(_, count)| count >= 3));
     }
 
+    /// Refreshes from the same source, those from another one, those of them that change the sender
+    /// alone, and frames from a source without a bit that are kept (N3, N7).
+    #[test]
+    fn no_kind_of_sender_is_rare() {
+        let mut desk = Desk::new();
+        let [mut same, mut another, mut alone, mut zeros] = [0; 4];
+        let zeros_used =
+            |table: &Table| table.used().filter(|&place| table.sender[place] == [0; 6]).count();
+        for event in &stored().0 {
+            if let Event::Spoiled(_) = event {
+                desk.take_back();
+                continue;
+            }
+            let before = desk.clone();
+            let Some(answer) = desk.act(event) else {
+                continue;
+            };
+            if answer == "refreshed" {
+                let from_another = desk.table.sender != before.table.sender;
+                let with_old = Table { sender: before.table.sender, ..desk.table.clone() };
+                let rest_stays = with_old == before.table && desk.buffer() == before.buffer();
+                same += usize::from(!from_another);
+                another += usize::from(from_another);
+                alone += usize::from(from_another && rest_stays);
+            }
+            zeros += usize::from(zeros_used(&desk.table) > zeros_used(&before.table));
+        }
+        println!("same {same}, another {another}, sender alone {alone}, zeros {zeros}");
+        assert!(same >= 50 && another >= 300 && alone >= 12 && zeros >= 20);
+    }
+
+    /// Each sender that a used place may have is set at one, and a call follows on a fit table (N5).
+    #[test]
+    fn no_right_sender_is_missing() {
+        let mut desk = Desk::new();
+        let mut set = HashSet::new();
+        for pair in stored().0.windows(2) {
+            match &pair[0] {
+                Event::Spoiled(_) => desk.take_back(),
+                event => drop(desk.act(event)),
+            }
+            if let [Event::SetSender { place, sender }, Event::HowMany { .. }] = pair {
+                assert!(desk.table.used().any(|used| used == *place));
+                assert!(desk.table.breaches(desk.buffer()).is_empty());
+                set.insert(*sender);
+            }
+        }
+        assert_eq!(set, stations().into_iter().collect());
+    }
+
     /// Looks at each spoiled table before its calls.
     fn at_each_trial(mut look: impl FnMut(&Desk, &Trial)) {
         let mut desk = Desk::new();
@@ -373,13 +429,20 @@ pub(crate) mod tests {
         assert!(counts.iter().all(|&count| count >= 300));
     }
 
-    /// The places that differ from those of the kept table.
-    fn spoiled_places(desk: &Desk) -> Vec<usize> {
+    /// The desk with its kept table.
+    fn taken_back(desk: &Desk) -> Desk {
         let mut kept = desk.clone();
         kept.take_back();
+        kept
+    }
+
+    /// The places that differ from those of the kept table.
+    fn spoiled_places(desk: &Desk) -> Vec<usize> {
+        let kept = taken_back(desk);
         let differs = |&place: &usize| {
             let [now, before] = [desk, &kept].map(|Desk { table, .. }| {
-                (table.port[place], table.seconds[place], table.length[place])
+                let numbers = (table.port[place], table.seconds[place], table.length[place]);
+                (numbers, table.sender[place])
             });
             let octets = octets_of(place);
             now != before || desk.buffer()[octets.clone()] != kept.buffer()[octets]
@@ -387,22 +450,29 @@ pub(crate) mod tests {
         (0..PLACES).filter(differs).collect()
     }
 
-    /// In each way that spoils a place the last places are spoiled, and the very last one.
+    /// In each way that spoils a place the first place is spoiled, the last places are, and the very
+    /// last one; in the ways of free places (N5 b) while they are free.
     #[test]
-    fn no_last_place_is_spared() {
+    fn neither_end_is_spared() {
         let of_a_place = |way: Way| "bcd".contains(way.letter());
-        let mut counts = Way::ALL.map(|(way, ..)| (way, 0, 0));
+        let mut counts = Way::ALL.map(|(way, ..)| (way, 0, 0, 0));
         at_each_trial(|desk, trial| {
             if of_a_place(trial.way) {
-                let places = spoiled_places(desk);
-                let (_, behind, last) = &mut counts[trial.way as usize];
+                let mut places = spoiled_places(desk);
+                if trial.way.letter() == 'b' {
+                    // Where the numbers alone become free, the sender may be wrong too.
+                    let kept = taken_back(desk);
+                    places.retain(|&place| kept.table.length[place] == 0);
+                }
+                let (_, first, behind, last) = &mut counts[trial.way as usize];
+                *first += usize::from(places.contains(&0));
                 *behind += usize::from(places.iter().any(|&place| place >= BEHIND_A_SMALLER_CELL));
                 *last += usize::from(places.contains(&LAST_PLACE));
             }
         });
         println!("{counts:?}");
         let mut counts = counts.iter().filter(|(way, ..)| of_a_place(*way));
-        assert!(counts.all(|&(_, behind, last)| behind >= 10 && last >= 5));
+        assert!(counts.all(|&(_, first, behind, last)| first >= 3 && behind >= 10 && last >= 5));
     }
 
     /// The number just behind the last port, and just one too many on a port or in common places.
@@ -417,6 +487,49 @@ pub(crate) mod tests {
         });
         println!("{next_ports} records with the next port");
         assert!(next_ports >= 20);
+    }
+
+    /// At a free place each octet of the sender is the only one that is not 0, the first without the
+    /// group bit too. At a used place that bit alone is wrong, or it is another group address (F4).
+    #[test]
+    fn no_wrong_sender_is_rare() {
+        let mut alone = [0; 6];
+        let [mut even, mut several, mut bit, mut group] = [0; 4];
+        // A place whose numbers alone become free keeps its sender, or not.
+        let [mut left, mut cleared] = [0; 2];
+        at_each_trial(|desk, trial| {
+            let kept = taken_back(desk);
+            let place = |desk| spoiled_places(desk)[0];
+            match trial.way {
+                Way::FreeSender => {
+                    let sender = desk.table.sender[place(desk)];
+                    let octets: Vec<_> = (0..6).filter(|&i| sender[i] != 0).collect();
+                    match octets[..] {
+                        [i] => alone[i] += 1,
+                        _ => several += 1,
+                    }
+                    even += usize::from(octets == [0] && sender[0] % 2 == 0);
+                }
+                Way::GroupSender => {
+                    let place = place(desk);
+                    let mut sender = desk.table.sender[place];
+                    sender[0] ^= 0x01;
+                    let by_the_bit = sender == kept.table.sender[place];
+                    bit += usize::from(by_the_bit);
+                    group += usize::from(!by_the_bit);
+                }
+                Way::FreeOctet if kept.table.length[place(desk)] != 0 => {
+                    let stays = desk.table.sender[place(desk)] != [0; 6];
+                    left += usize::from(stays);
+                    cleared += usize::from(!stays);
+                }
+                _ => {}
+            }
+        });
+        println!("alone {alone:?}, even {even}, several {several}, bit alone {bit}, group {group}");
+        println!("numbers alone: sender left {left}, cleared {cleared}");
+        let counts = [even, several, bit, group, left, cleared];
+        assert!(alone.iter().chain(&counts).all(|&count| count >= 10));
     }
 
     /// A chassis at a place is wrong in each way that L3 names.
@@ -486,9 +599,9 @@ pub(crate) mod tests {
 
     #[test]
     fn the_digest_of_nothing_but_zeros() {
-        // h = 31 h + 1 from 0 on, so often as there are numbers and octets.
+        // h = 31 h + 1 from 0 on, so often as there are numbers and octets, six of them a sender.
         let mut h: u64 = 0;
-        for _ in 0..3 * PLACES + BUFFER_OCTETS {
+        for _ in 0..(3 + 6) * PLACES + BUFFER_OCTETS {
             h = (31 * h + 1) % 4_294_967_291;
         }
         let mut desk = Desk::new();

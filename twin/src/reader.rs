@@ -92,11 +92,13 @@ impl Naming {
 }
 
 pub fn read_frame(frame: &[u8]) -> Result<Reading, Refusal> {
-    read_lldpdu(payload(frame)?)
+    let (_, behind) = open_frame(frame)?;
+    read_lldpdu(behind)
 }
 
 pub fn outline_frame(frame: &[u8]) -> Result<Outline, Refusal> {
-    outline_lldpdu(payload(frame)?)
+    let (_, behind) = open_frame(frame)?;
+    outline_lldpdu(behind)
 }
 
 pub fn outline_lldpdu(lldpdu: &[u8]) -> Result<Outline, Refusal> {
@@ -177,9 +179,9 @@ pub fn name_link(lldpdu: &[u8], address: Address) -> Result<Option<Naming>, Refu
     Ok(naming)
 }
 
-/// The octets behind a frame's header. Length, destination, type and then source (F1 to F4) are
-/// judged before any TLV.
-fn payload(frame: &[u8]) -> Result<&[u8], Refusal> {
+/// A frame's source and the octets behind its header. Length, destination, type and then source (F1
+/// to F4) are judged before any TLV.
+pub fn open_frame(frame: &[u8]) -> Result<(Address, &[u8]), Refusal> {
     let (destination, rest) = frame.split_first_chunk::<6>().ok_or(BAD_HEADER)?;
     let (source, rest) = rest.split_first_chunk::<6>().ok_or(BAD_HEADER)?;
     let (kind, lldpdu) = rest.split_first_chunk::<2>().ok_or(BAD_HEADER)?;
@@ -187,11 +189,11 @@ fn payload(frame: &[u8]) -> Result<&[u8], Refusal> {
         && [EVERYONE, NEAREST].contains(destination)
         && *kind == LLDP_TYPE
         && !is_group(source);
-    right.then_some(lldpdu).ok_or(BAD_HEADER)
+    right.then_some((*source, lldpdu)).ok_or(BAD_HEADER)
 }
 
 /// The lowest bit of the first octet is set: no station owns such an address (F4).
-fn is_group(address: &Address) -> bool {
+pub fn is_group(address: &Address) -> bool {
     address[0] & 0x01 != 0
 }
 

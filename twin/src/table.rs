@@ -4,7 +4,9 @@
 use std::ops::Range;
 
 use crate::id::Id;
-use crate::reader::{name_link, outline_frame, outline_lldpdu, Address, Naming, Outline, Refusal};
+use crate::reader::{
+    is_group, name_link, open_frame, outline_lldpdu, Address, Naming, Outline, Refusal,
+};
 
 /// The number of ports, which is n in the rules. All sizes of the table follow from it (N1).
 pub const PORTS: usize = 10;
@@ -20,12 +22,13 @@ pub const OF_EACH_PORT: usize = 4;
 /// What a port holds is counted in an octet (N1).
 const _: () = assert!(PORTS >= 1 && PORTS <= 63);
 
-const HEADER_OCTETS: usize = 14;
-
 /// What a port can hold at most, what it is sure of, and what all ports share (N12).
 pub const MOST: usize = 6;
 pub const SURE: usize = 2;
 pub const COMMON: usize = common(PORTS);
+
+/// The sender of a free place (N4); a used place may have it too (N5).
+const ZEROS: Address = [0; 6];
 
 const UNFIT: Refusal = 1;
 const NO_SUCH_PORT: Refusal = 2;
@@ -47,19 +50,26 @@ pub const fn common(ports: usize) -> usize {
     2 * ports
 }
 
-/// The table's own numbers; the octets lie in the lent buffer (N1).
+/// The table's own numbers and the senders; the octets lie in the lent buffer (N1).
 #[derive(Clone, Debug, PartialEq, Eq)]
 pub struct Table {
     pub port: [u8; PLACES],
     /// Seconds left.
     pub seconds: [u16; PLACES],
     pub length: [u16; PLACES],
+    /// The source of the frame that the record's LLDPDU came in (N3).
+    pub sender: [Address; PLACES],
 }
 
 impl Default for Table {
     /// All places are free (N4).
     fn default() -> Table {
-        Table { port: [0; PLACES], seconds: [0; PLACES], length: [0; PLACES] }
+        Table {
+            port: [0; PLACES],
+            seconds: [0; PLACES],
+            length: [0; PLACES],
+            sender: [ZEROS; PLACES],
+        }
     }
 }
 
@@ -79,7 +89,8 @@ pub struct Sighting {
     pub naming: Naming,
 }
 
-/// Chassis alone is not enough, and of both IDs the subtype and the number of octets count (N2).
+/// Chassis alone is not enough, and of both IDs the subtype and the number of octets count. The
+/// sender is no part of it (N2).
 #[derive(Clone, Debug, PartialEq, Eq)]
 struct Identity {
     receiving_port: u8,
@@ -126,8 +137,9 @@ impl Table {
     ) -> Result<Reply, Refusal> {
         self.judge(buffer)?;
         judge_port(port)?;
-        let outline = outline_frame(frame)?;
-        let lldpdu = &frame[HEADER_OCTETS..][..outline.length];
+        let (source, behind) = open_frame(frame)?;
+        let outline = outline_lldpdu(behind)?;
+        let lldpdu = &behind[..outline.length];
         let identity = Identity::of(port as u8, &outline);
         let known =
             self.used().find(|&place| self.identity(buffer, place) == Some(identity.clone()));
@@ -138,12 +150,12 @@ impl Table {
                 Ok(Reply::Gone)
             }
             (seconds, Some(place)) => {
-                self.put(buffer, place, port as u8, seconds, lldpdu);
+                self.put(buffer, place, port as u8, seconds, source, lldpdu);
                 Ok(Reply::Refreshed)
             }
             (seconds, None) => {
                 let place = self.place_for_a_new_one(port)?;
-                self.put(buffer, place, port as u8, seconds, lldpdu);
+                self.put(buffer, place, port as u8, seconds, source, lldpdu);
                 Ok(Reply::Recorded)
             }
         }
@@ -241,6 +253,7 @@ impl Table {
         self.free().all(|place| {
             self.port[place] == 0
                 && self.seconds[place] == 0
+                && self.sender[place] == ZEROS
                 && buffer[octets_of(place)].iter().all(|&octet| octet == 0)
         })
     }
@@ -251,6 +264,7 @@ impl Table {
                 return false;
             };
             usize::from(self.port[place]) < PORTS
+                && !is_group(&self.sender[place])
                 && (1..=outline.seconds).contains(&self.seconds[place])
                 && buffer[octets_of(place)][outline.length..].iter().all(|&octet| octet == 0)
         })
@@ -285,19 +299,28 @@ impl Table {
         Ok(self.free().next().expect("sure and common places are not all taken"))
     }
 
-    /// The LLDPDU through its End, then zeros (N3).
-    fn put(&mut self, buffer: &mut [u8], place: usize, port: u8, seconds: u16, lldpdu: &[u8]) {
+    /// The LLDPDU through its End, then zeros; of the header the source alone (N3).
+    fn put(
+        &mut self,
+        buffer: &mut [u8],
+        place: usize,
+        port: u8,
+        seconds: u16,
+        sender: Address,
+        lldpdu: &[u8],
+    ) {
         self.port[place] = port;
         self.seconds[place] = seconds;
         self.length[place] = lldpdu.len() as u16;
+        self.sender[place] = sender;
         let (kept, behind) = buffer[octets_of(place)].split_at_mut(lldpdu.len());
         kept.copy_from_slice(lldpdu);
         behind.fill(0);
     }
 
-    /// Numbers 0 and octets 0 (N4).
+    /// Numbers 0, a sender of six zeros and octets 0 (N4).
     fn clear(&mut self, buffer: &mut [u8], place: usize) {
-        self.put(buffer, place, 0, 0, &[]);
+        self.put(buffer, place, 0, 0, ZEROS, &[]);
     }
 }
 

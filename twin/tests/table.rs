@@ -17,6 +17,16 @@ use Reply::{Gone, Recorded, Refreshed, UnknownGoodbye};
 /// With six on each of so many ports all common places are taken; the number of ports is even.
 const HALF: usize = PORTS / 2;
 
+/// The source of frame A, and two others that may be one. The second differs from it in the last
+/// octet alone, the third has every bit that a source may have (F4).
+const STATION: [u8; 6] = [0x02, 0x00, 0x00, 0x00, 0x00, 0x01];
+const SECOND: [u8; 6] = [0x02, 0x00, 0x00, 0x00, 0x00, 0x02];
+const THIRD: [u8; 6] = [0xFE, 0xFF, 0xFF, 0xFF, 0xFF, 0xFF];
+const ZEROS: [u8; 6] = [0x00; 6];
+
+/// The other destination than that of frame A (F2).
+const NEAREST: [u8; 6] = [0x01, 0x80, 0xC2, 0x00, 0x00, 0x0E];
+
 /// Places of octets in A: the last of the chassis, the subtype and the octet of the port ID, and
 /// the two of the seconds.
 const CHASSIS: usize = 8;
@@ -60,10 +70,15 @@ fn announced(chassis: &Id, seconds: u8) -> Vec<u8> {
     [&first, &A[9..SECONDS_LOW], &[seconds], &A[17..]].concat()
 }
 
-/// The frame with the source 03-00-00-00-00-01, a group address (F4).
-fn from_a_group(mut frame: Vec<u8>) -> Vec<u8> {
-    frame[6] = 0x03;
+/// The frame with another source (F1).
+fn sent_by(source: [u8; 6], mut frame: Vec<u8>) -> Vec<u8> {
+    frame[6..12].copy_from_slice(&source);
     frame
+}
+
+/// The frame with the source 03-00-00-00-00-01, a group address (F4).
+fn from_a_group(frame: Vec<u8>) -> Vec<u8> {
+    sent_by([0x03, 0x00, 0x00, 0x00, 0x00, 0x01], frame)
 }
 
 /// A table with the buffer that is lent to it.
@@ -79,6 +94,8 @@ impl Watch {
         watch.table.port[3] = 255;
         watch.table.seconds[0] = 1;
         watch.table.length[LAST_PLACE] = 65_535;
+        watch.table.sender[1] = STATION;
+        watch.table.sender[LAST_PLACE] = [0xFF; 6];
         assert_eq!(watch.start(), Ok(()));
         watch
     }
@@ -125,8 +142,15 @@ impl Watch {
         self.table.who_sees(&self.buffer, address, from)
     }
 
-    /// The place has these numbers and octets, and zeros behind them.
+    /// The place has these numbers and octets, and zeros behind them. It is from the source of frame
+    /// A, or from nobody where it is free (N4).
     fn has(&self, place: usize, port: usize, seconds: u16, octets: &[u8]) {
+        let sender = if octets.is_empty() { ZEROS } else { STATION };
+        self.has_from(sender, place, port, seconds, octets);
+    }
+
+    fn has_from(&self, sender: [u8; 6], place: usize, port: usize, seconds: u16, octets: &[u8]) {
+        assert_eq!(self.table.sender[place], sender);
         assert_eq!(usize::from(self.table.port[place]), port);
         assert_eq!(self.table.seconds[place], seconds);
         assert_eq!(usize::from(self.table.length[place]), octets.len());
@@ -205,8 +229,13 @@ fn the_sizes_follow_from_the_number_of_ports() {
 #[test]
 fn start_makes_everything_0() {
     let watch = Watch::started();
-    let numbers = Table { port: [0; PLACES], seconds: [0; PLACES], length: [0; PLACES] };
-    assert_eq!(watch.table, numbers);
+    let zeros = Table {
+        port: [0; PLACES],
+        seconds: [0; PLACES],
+        length: [0; PLACES],
+        sender: [ZEROS; PLACES],
+    };
+    assert_eq!(watch.table, zeros);
     assert_eq!(watch.buffer, vec![0; BUFFER_OCTETS]);
     for octets in [0, 1, BUFFER_OCTETS - 1, BUFFER_OCTETS + 1, 2 * BUFFER_OCTETS] {
         lent(octets, 0xEE);
@@ -239,9 +268,9 @@ fn a_new_record_takes_the_lowest_free_place() {
 }
 
 #[test]
-fn header_and_padding_are_not_kept() {
+fn destination_type_and_padding_are_not_kept() {
     let mut watch = Watch::started();
-    let padded = [&frame(&[])[..], &[0xAB; 9]].concat();
+    let padded = [&NEAREST[..], &frame(&[])[6..], &[0xAB; 9]].concat();
     assert_eq!(watch.frame(0, &padded), Ok(Recorded));
     watch.has(0, 0, 120, &A);
     let mut bare = Watch::started();
@@ -306,10 +335,108 @@ fn what_makes_an_identity() {
     assert_eq!(watch.holds(0), Ok(6));
     assert_eq!(watch.holds(1), Ok(1));
     // Destination, source, seconds and what follows them play no part.
-    let mut other = frame(&[(SECONDS, 0xFF), (25, 0x42)]);
-    other[..12].copy_from_slice(&[0x01, 0x80, 0xC2, 0x00, 0x00, 0x0E, 8, 9, 9, 9, 9, 9]);
+    let mut other = sent_by([8, 9, 9, 9, 9, 9], frame(&[(SECONDS, 0xFF), (25, 0x42)]));
+    other[..6].copy_from_slice(&NEAREST);
     assert_eq!(watch.frame(0, &other), Ok(Refreshed));
-    watch.has(0, 0, 0xFF78, &other[14..]);
+    watch.has_from([8, 9, 9, 9, 9, 9], 0, 0, 0xFF78, &other[14..]);
+}
+
+/// Recorded, refreshed and gone, each from another source (N2, N7).
+#[test]
+fn a_record_has_its_last_sender() {
+    let mut watch = Watch::started();
+    assert_eq!(watch.frame(4, &sent_by(SECOND, frame(&[]))), Ok(Recorded));
+    watch.has_from(SECOND, 0, 4, 120, &A);
+    let before = watch.clone();
+    // The same octets from another source: the sender alone is another.
+    for source in [STATION, THIRD, ZEROS] {
+        assert_eq!(watch.frame(4, &sent_by(source, frame(&[]))), Ok(Refreshed));
+        watch.has_from(source, 0, 4, 120, &A);
+        watch.table.sender[0] = SECOND;
+        assert_eq!(watch, before);
+    }
+    // Other octets and other seconds from the third.
+    let other = frame(&[(SECONDS_LOW, 90), (25, 0x42)]);
+    assert_eq!(watch.frame(4, &sent_by(THIRD, other.clone())), Ok(Refreshed));
+    watch.has_from(THIRD, 0, 4, 90, &other[14..]);
+    // A goodbye may come from any source, and a second one finds nobody.
+    let goodbye = sent_by(SECOND, goodbye(1));
+    assert_eq!(watch.frame(4, &goodbye), Ok(Gone));
+    assert_eq!(watch, Watch::started());
+    assert_eq!(watch.frame(4, &goodbye), Ok(UnknownGoodbye));
+    assert_eq!(watch, Watch::started());
+}
+
+#[test]
+fn each_record_has_a_sender_of_its_own() {
+    let mut watch = Watch::started();
+    // Two neighbours from one source, and the first of them on another port from another source.
+    assert_eq!(watch.frame(1, &sent_by(SECOND, neighbour(1))), Ok(Recorded));
+    assert_eq!(watch.frame(1, &sent_by(SECOND, neighbour(2))), Ok(Recorded));
+    assert_eq!(watch.frame(5, &sent_by(THIRD, neighbour(1))), Ok(Recorded));
+    let senders = |watch: &Watch| watch.table.sender[..4].to_vec();
+    assert_eq!(senders(&watch), [SECOND, SECOND, THIRD, ZEROS]);
+    assert_eq!(watch.frame(5, &sent_by(ZEROS, neighbour(1))), Ok(Refreshed));
+    assert_eq!(senders(&watch), [SECOND, SECOND, ZEROS, ZEROS]);
+    assert_eq!(watch.frame(1, &sent_by(THIRD, neighbour(2))), Ok(Refreshed));
+    assert_eq!(senders(&watch), [SECOND, THIRD, ZEROS, ZEROS]);
+    assert_eq!(watch.frame(1, &sent_by(THIRD, goodbye(1))), Ok(Gone));
+    assert_eq!(senders(&watch), [ZEROS, THIRD, ZEROS, ZEROS]);
+    assert_eq!(watch.frame(5, &sent_by(STATION, neighbour(1))), Ok(Refreshed));
+    assert_eq!(senders(&watch), [ZEROS, THIRD, STATION, ZEROS]);
+}
+
+/// Senders go with their places: by a goodbye, by time, by a lost link, and by Start (N4, N6).
+#[test]
+fn a_freed_place_has_no_sender() {
+    let mut watch = Watch::started();
+    let short = frame(&[(CHASSIS, 2), (SECONDS_LOW, 60)]);
+    assert_eq!(watch.frame(1, &sent_by(SECOND, neighbour(1))), Ok(Recorded));
+    assert_eq!(watch.frame(2, &sent_by(SECOND, short)), Ok(Recorded));
+    assert_eq!(watch.frame(3, &sent_by(SECOND, neighbour(3))), Ok(Recorded));
+    assert_eq!(watch.frame(1, &goodbye(1)), Ok(Gone));
+    watch.has(0, 0, 0, &[]);
+    assert_eq!(watch.frame(1, &sent_by(THIRD, neighbour(4))), Ok(Recorded));
+    watch.has_from(THIRD, 0, 1, 120, &lldpdu(&[(CHASSIS, 4)]));
+    assert_eq!(watch.seconds(60), Ok(()));
+    watch.has(1, 0, 0, &[]);
+    watch.has_from(THIRD, 0, 1, 60, &lldpdu(&[(CHASSIS, 4)]));
+    watch.has_from(SECOND, 2, 3, 60, &lldpdu(&[(CHASSIS, 3)]));
+    assert_eq!(watch.frame(2, &neighbour(5)), Ok(Recorded));
+    watch.has(1, 2, 120, &lldpdu(&[(CHASSIS, 5)]));
+    assert_eq!(watch.lost(3), Ok(()));
+    watch.has(2, 0, 0, &[]);
+    watch.has_from(THIRD, 0, 1, 60, &lldpdu(&[(CHASSIS, 4)]));
+    assert_eq!(watch.frame(3, &sent_by(ZEROS, neighbour(6))), Ok(Recorded));
+    watch.has_from(ZEROS, 2, 3, 120, &lldpdu(&[(CHASSIS, 6)]));
+    assert_eq!(watch.start(), Ok(()));
+    assert_eq!(watch, Watch::started());
+}
+
+/// Refusals and an unknown goodbye leave the senders of the records (N7, R12).
+#[test]
+fn frames_that_change_nothing_leave_the_senders() {
+    let mut watch = Watch::of_b13();
+    let known = sent_by(SECOND, neighbour(1));
+    watch.refuses(2, |watch| watch.frame(PORTS, &known).err());
+    watch.refuses(3, |watch| watch.frame(0, &from_a_group(known.clone())).err());
+    watch.refuses(4, |watch| watch.frame(0, &sent_by(SECOND, frame(&[(2, 5)]))).err());
+    watch.refuses(5, |watch| watch.frame(0, &known[..50]).err());
+    let again = [&known[..49], &[0x06, 0x02, 0x00, 0x78], &known[49..]].concat();
+    watch.refuses(6, |watch| watch.frame(0, &again).err());
+    let new = sent_by(SECOND, neighbour(99));
+    watch.refuses(7, |watch| watch.frame(0, &new).err());
+    watch.refuses(8, |watch| watch.frame(HALF, &new).err());
+    let before = watch.clone();
+    assert_eq!(watch.frame(0, &sent_by(SECOND, goodbye(99))), Ok(UnknownGoodbye));
+    assert_eq!(watch, before);
+    // So do questions, and no seconds that pass.
+    assert_eq!(watch.holds(0), Ok(6));
+    assert_eq!(watch.sees(SECOND, 0), Ok(None));
+    assert_eq!(watch.seconds(0), Ok(()));
+    assert_eq!(watch, before);
+    assert_eq!(watch.frame(0, &known), Ok(Refreshed));
+    watch.has_from(SECOND, 0, 0, 120, &lldpdu(&[(CHASSIS, 1)]));
 }
 
 /// Six chassis that are much alike: in all octets, in the first or last ones, or spelled (N2).
@@ -744,6 +871,14 @@ fn free_places_must_be_clear() {
         for octet in [0, 1, 1499] {
             spoiled(|watch| watch.buffer[1500 * place + octet] = 1);
         }
+        // Each octet of the sender alone; of the first one each bit.
+        for octet in 0..6 {
+            spoiled(|watch| watch.table.sender[place][octet] = 1);
+        }
+        for bit in 1..8 {
+            spoiled(|watch| watch.table.sender[place][0] = 1 << bit);
+        }
+        spoiled(|watch| watch.table.sender[place] = STATION);
     }
     // The length alone becomes 0.
     spoiled(|watch| watch.table.length[0] = 0);
@@ -771,7 +906,19 @@ fn used_places_must_be_sound() {
     // Seconds of the LLDPDU under what is left, and seconds 0.
     spoiled(|watch| watch.buffer[SECONDS_LOW] = 119);
     spoiled(|watch| watch.buffer[SECONDS_LOW] = 0);
+    // A group address as sender: that of A but for one bit, that bit alone, and both destinations.
+    for sender in [[3, 0, 0, 0, 0, 1], [1, 0, 0, 0, 0, 0], NEAREST, [0xFF; 6]] {
+        spoiled(|watch| watch.table.sender[0] = sender);
+    }
     // Changes that leave it fit.
+    for sender in [ZEROS, SECOND, THIRD, [0x80, 0, 0, 0, 0, 0], [0, 1, 1, 1, 1, 1]] {
+        let mut watch = Watch::holding(&[(2, 1)]);
+        watch.table.sender[0] = sender;
+        assert!(watch.is_fit());
+        watch.has_from(sender, 0, 2, 120, &lldpdu(&[(CHASSIS, 21)]));
+        assert_eq!(watch.frame(2, &neighbour(21)), Ok(Refreshed));
+        assert_eq!(watch, Watch::holding(&[(2, 1)]));
+    }
     for seconds in [1, 2, 119, 120] {
         let mut watch = Watch::holding(&[(2, 1)]);
         watch.table.seconds[0] = seconds;
@@ -797,6 +944,7 @@ fn write(watch: &mut Watch, place: usize, port: u8, octets: &[u8]) {
     watch.table.port[place] = port;
     watch.table.seconds[place] = 120;
     watch.table.length[place] = octets.len() as u16;
+    watch.table.sender[place] = STATION;
     watch.buffer[1500 * place..][..octets.len()].copy_from_slice(octets);
 }
 
@@ -804,8 +952,12 @@ fn write(watch: &mut Watch, place: usize, port: u8, octets: &[u8]) {
 fn no_identity_may_stand_twice() {
     for place in [1, LAST_PLACE] {
         spoiled(|watch| write(watch, place, 2, &lldpdu(&[(CHASSIS, 21)])));
-        // Other seconds and another category do not make another identity.
+        // Other seconds and another category do not make another identity, nor does the sender.
         spoiled(|watch| write(watch, place, 2, &lldpdu(&[(CHASSIS, 21), (15, 1), (25, 0x42)])));
+        spoiled(|watch| {
+            write(watch, place, 2, &lldpdu(&[(CHASSIS, 21)]));
+            watch.table.sender[place] = SECOND;
+        });
         let mut watch = Watch::holding(&[(2, 1)]);
         write(&mut watch, place, 3, &lldpdu(&[(CHASSIS, 21)]));
         assert!(watch.is_fit());

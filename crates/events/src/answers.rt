@@ -68,7 +68,7 @@ fn call_one(kind: u8, r: Record, t: Table, buffer: &mut [u8], frame: &[u8]) -> T
     u
 }
 
-// A spoiled table (13) gets all six calls in one line, Start last, since it mends what is spoiled (N6).
+// A spoiled table (14) gets all six calls in one line, Start last, since it mends what is spoiled (N6).
 pub(crate) fn answer(case: usize, r: Record, t: Table, buffer: &mut [u8], frame: &[u8]) -> Table {
     if r.kind < 6 {
         say(CALL, case);

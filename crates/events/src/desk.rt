@@ -1,5 +1,5 @@
 // What a record does to a table, to the store that its buffer is lent from, and to the octets that were kept of the store.
-// A record is a call (kinds 0 to 5), a preparation without a word (6 to 12), or a spoiled table (13).
+// A record is a call (kinds 0 to 5), a preparation without a word (6 to 13), or a spoiled table (14).
 ghost use Prim.Native.Nat.{_<_};
 ghost use Rattle.numbers.specs.Sizes.{places};
 use crate::answers::answer;
@@ -7,6 +7,7 @@ use crate::record::Record;
 use octets::octet;
 use table::OCTETS;
 use table::PLACES;
+use table::Sender;
 use table::Table;
 use whole::fill;
 
@@ -18,6 +19,7 @@ pub(crate) fn empty() -> Table {
         port: [0; PLACES],
         seconds: [0; PLACES],
         length: [0; PLACES],
+        sender: [Sender { octets: [0; 6] }; PLACES],
     }
 }
 
@@ -50,6 +52,7 @@ fn copy_place(t: Table, store: &mut [u8], from: usize, to: usize) -> Table {
     u.port[to] = t.port[from];
     u.seconds[to] = t.seconds[from];
     u.length[to] = t.length[from];
+    u.sender[to] = t.sender[from];
     u
 }
 
@@ -67,13 +70,27 @@ fn set_number(t: Table, kind: u8, place: usize, value: u16) -> Table {
     u
 }
 
-// A number (7 to 9) or an octet (10) becomes another one, or a place is copied (11).
+// The sender of a place becomes another one (10).
+fn set_sender(t: Table, place: usize, sender: [u8; 6]) -> Table {
+    if place >= PLACES {
+        return t;
+    }
+    let mut u = t;
+    u.sender[place] = Sender { octets: sender };
+    u
+}
+
+// A number (7 to 9), a sender (10) or an octet (11) becomes another one, or a place is copied (12).
 fn spoil(r: Record, t: Table, store: &mut [u8]) -> Table {
     let kind = r.kind;
+    let address = r.address;
     if kind < 10 {
         return set_number(t, kind, r.number, r.value);
     }
     if kind == 10 {
+        return set_sender(t, r.number, address);
+    }
+    if kind == 11 {
         put(store, r.number, (r.value % 256) as u8);
         return t;
     }
@@ -95,7 +112,7 @@ fn run_calls(
     answer(case, r, t, &mut store[0..lent], frame)
 }
 
-// What a record does to the table and to the store. Kind 12 keeps the store, and kind 13 takes it back.
+// What a record does to the table and to the store. Kind 13 keeps the store, and kind 14 takes it back.
 pub(crate) fn run(
     case: usize,
     r: Record,
@@ -108,12 +125,12 @@ pub(crate) fn run(
     let kind = r.kind;
     match kind {
         6 => t,
-        7..=11 => spoil(r, t, store),
-        12 => {
+        7..=12 => spoil(r, t, store),
+        13 => {
             fill(kept, store);
             t
         }
-        13 => {
+        14 => {
             let u = run_calls(case, r, t, lent, frame, store);
             fill(store, kept);
             u
@@ -132,7 +149,7 @@ pub(crate) fn lent_behind(r: Record, lent: usize) -> usize {
     if r.kind == 6 {
         return r.number;
     }
-    if r.kind == 13 {
+    if r.kind == 14 {
         return OCTETS;
     }
     lent

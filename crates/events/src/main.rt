@@ -25,7 +25,7 @@ fn store() -> [u8; STORE] {
     [0; STORE]
 }
 
-// Kind 12 keeps the table beside its store, and kind 13 takes both back.
+// Kind 13 keeps the table beside its store, and kind 14 takes both back.
 fn run_all(file: &[u8], store: &mut [u8], kept: &mut [u8]) {
     let mut t = desk::empty();
     let mut k = desk::empty();
@@ -44,8 +44,8 @@ fn run_all(file: &[u8], store: &mut [u8], kept: &mut [u8]) {
         );
         let r = record::record_at(octets);
         let u = desk::run(case, r, t, lent, record::frame_at(octets, r), store, kept);
-        k = desk::chosen(r.kind == 12, t, k);
-        t = desk::chosen(r.kind == 13, k, u);
+        k = desk::chosen(r.kind == 13, t, k);
+        t = desk::chosen(r.kind == 14, k, u);
         lent = desk::lent_behind(r, lent);
         at = record::next(at, r);
     }

@@ -6,7 +6,9 @@ use reader::Part;
 use reader::text_of;
 use table::Answer;
 use table::Count;
+use table::PLACES;
 use table::Reply;
+use table::Sender;
 use table::Sight;
 use table::Table;
 
@@ -124,12 +126,29 @@ fn mixed_numbers(h: u32, s: &[u16]) -> u32 {
     mix
 }
 
-// The digest goes over the ports, the seconds, the lengths and then every octet of the buffer.
+// A call of its own, so that the number of octets is known.
+fn mixed_sender(h: u32, s: [u8; 6]) -> u32 {
+    mixed_octets(h, &s)
+}
+
+fn mixed_senders(h: u32, s: [Sender; PLACES]) -> u32 {
+    let mut mix = h;
+    for i in 0..PLACES {
+        let sender = s[i];
+        let octets = sender.octets;
+        mix = mixed_sender(mix, octets);
+    }
+    mix
+}
+
+// The digest goes over the ports, the seconds, the lengths, the senders and then every octet of the buffer.
 pub(crate) fn say_digest(t: Table, buffer: &[u8]) {
     let port = t.port;
     let seconds = t.seconds;
     let length = t.length;
+    let sender = t.sender;
     let ports = mixed_octets(0, &port);
     let numbers = mixed_numbers(mixed_numbers(ports, &seconds), &length);
-    say(DIGEST, mixed_octets(numbers, buffer) as usize);
+    let senders = mixed_senders(numbers, sender);
+    say(DIGEST, mixed_octets(senders, buffer) as usize);
 }

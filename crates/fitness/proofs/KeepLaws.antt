@@ -10,6 +10,8 @@ use lib.Dec.{leb}
 use lib.ListN.{length, take, drop, replicate, length-replicate}
 use lib.Seq.{take-at, drop-at, length-take-le}
 use Rattle.tally.proofs.TestsLaws.{both-end, held}
+use Rattle.octets.specs.Address.{isGroup}
+use Rattle.octets.proofs.AddressLaws.{same-refl}
 use Rattle.whole.specs.Whole.{zeros, filled}
 use Rattle.whole.proofs.WholeLaws.{zeros-replicate, filled-front, filled-length}
 use Rattle.lldpdu.specs.Extent.{extentOf}
@@ -19,7 +21,7 @@ use Rattle.lldpdu.proofs.Stable.{sized, extent-stable, outline-stable}
 use Rattle.walk.specs.declared.Extent.{Extent}
 use Rattle.walk.specs.declared.Extent.the-variants.{Refused, Octets}
 use Rattle.numbers.specs.Sizes.{ports}
-use Rattle.place.specs.State.{size, free, lldpduAt, keep}
+use Rattle.place.specs.State.{size, sixZeros, free, lldpduAt, keep}
 use Rattle.marks.specs.PlaceFit.{exactly, whole, okFree, okUsed, okPlace}
 
 -- A whole LLDPDU, and the test for it part by part
@@ -61,20 +63,20 @@ whole-some l e = omega (arith, sized (good l (length l) e) .seconds)
 
 pub free-ok : okPlace free ≡ true
 unfolding okPlace okFree
-free-ok = both-end (zeros (free .body)) ∙ zeros-replicate size
+free-ok = rw (same-refl (sixZeros .octets), both-end (zeros (free .body))) (zeros-replicate size)
 
 pub free-long : length (free .body) ≡ size
 free-long = length-replicate {A = ℕ} size 0
 
 -- An LLDPDU l is kept
 
-module _ (p n : ℕ) (l : List ℕ) where
-  pub keep-long : length (keep p n l .body) ≡ size
+module _ (p n : ℕ) (sender l : List ℕ) where
+  pub keep-long : length (keep p n sender l .body) ≡ size
   unfolding keep
   keep-long = filled-length l size
 
   -- what a place is asked for is what it was given
-  pub keep-lldpdu : length l ≤ size → lldpduAt (keep p n l) ≡ l
+  pub keep-lldpdu : length l ≤ size → lldpduAt (keep p n sender l) ≡ l
   unfolding keep
   keep-lldpdu h = ap (take (length l)) (filled-front l size h) ∙ take-at l (replicate (size - length l) 0) (length l) refl
 
@@ -84,12 +86,13 @@ module _ (p n : ℕ) (l : List ℕ) where
       ∙ ap zeros (drop-at l (replicate (size - length l) 0) (length l) refl)
       ∙ zeros-replicate (size - length l)
 
-  pub keep-ok : p < ports → length l ≤ size → Whole l n → okPlace (keep p n l) ≡ true
+  pub keep-ok : p < ports → isGroup sender ≡ false → length l ≤ size → Whole l n → okPlace (keep p n sender l) ≡ true
   unfolding okPlace okUsed keep
-  keep-ok a h w =
+  keep-ok a g h w =
       rw (
         ne-eqb (length l) 0 (λ e. omega (arith, whole-some l (w .extent))),
         lt-ltb p ports a,
+        g,
         le-leb (length l) size h,
         ap (λ (k : List ℕ). whole k n) (keep-lldpdu h) ∙ parts-whole l n w,
         keep-rest h,

@@ -10,6 +10,7 @@ use native.Mathlib.Omega.{arith}
 use borrow.Author.Tests.{eqb-true, eqb-false}
 use lib.Dec.{eqb}
 use lib.ListN.{length, set}
+use Rattle.octets.specs.Address.{isGroup}
 use Rattle.lldpdu.specs.Extent.{extentOf}
 use Rattle.lldpdu.specs.Outline.{outlineOf}
 use Rattle.walk.specs.declared.Extent.the-variants.{Octets}
@@ -19,7 +20,7 @@ use Rattle.rules.specs.Model.{Rec, recorded}
 use Rattle.rules.specs.Tab.{tab}
 use Rattle.rules.proofs.TabLaws.{tab-set, tab-each}
 use Rattle.numbers.specs.Sizes.{ports, places}
-use Rattle.place.specs.State.{Place, State, Sized, size, at, put, each, keep, said}
+use Rattle.place.specs.State.{Place, State, Sized, size, at, put, each, keep, whoseIn, said}
 use Rattle.marks.specs.PlaceFit.{okPlace}
 use Rattle.fitness.specs.View.{placeOf, view}
 use Rattle.place.proofs.PutLaws.{KeepsLong, Changed, at-put-same, at-put-other, each-law}
@@ -32,25 +33,25 @@ Good s = (k : ℕ) → k < places → okPlace (at s k) ≡ true
 
 -- What is kept of an announcement
 
--- a says what its own octets say, and these are a whole LLDPDU that a place has room for
+-- a says what its own octets say, these are a whole LLDPDU that a place has room for, and no group address sent them
 pub record Spoken (a : Announcement) : Type 0 where
-  pub says : said (a .octets) ≡ a
+  pub says : said (a .sender) (a .octets) ≡ a
+  pub station : isGroup (a .sender) ≡ false
   pub long : length (a .octets) ≤ size
   pub extent : extentOf (a .octets) ≡ Octets (length (a .octets))
 
 module _ (p : ℕ) (a : Announcement) (c : Spoken a) where
-  pub keep-place : placeOf (keep p (a .seconds) (a .octets)) ≡ some (recorded p a)
+  pub keep-place : placeOf (keep p (a .seconds) (a .sender) (a .octets)) ≡ some (recorded p a)
   unfolding keep
   keep-place =
-      place-used (keep p (a .seconds) (a .octets)) (λ e. omega (arith, whole-some (a .octets) (c .extent)))
-      ∙ ap (λ (l : List ℕ). some (record { who = whose p (said l); left = a .seconds; octets = l })) (keep-lldpdu p (a .seconds) (a .octets) (c .long))
-      ∙ ap (λ (b : Announcement). some (record { who = whose p b; left = a .seconds; octets = a .octets })) (c .says)
+      place-used (keep p (a .seconds) (a .sender) (a .octets)) (λ e. omega (arith, whole-some (a .octets) (c .extent)))
+      ∙ ap (λ (l : List ℕ). some (record { who = whoseIn p l; left = a .seconds; octets = l; sender = a .sender })) (keep-lldpdu p (a .seconds) (a .sender) (a .octets) (c .long))
+      ∙ ap (λ (b : Announcement). some (record { who = whose p b; left = a .seconds; octets = a .octets; sender = a .sender })) (c .says)
 
-  pub keep-good : p < ports → a .seconds ≢ 0 → okPlace (keep p (a .seconds) (a .octets)) ≡ true
-  unfolding said
+  pub keep-good : p < ports → a .seconds ≢ 0 → okPlace (keep p (a .seconds) (a .sender) (a .octets)) ≡ true
   keep-good l z =
       let e : outlineOf (a .octets) .seconds ≡ a .seconds = ap (λ (b : Announcement). b .seconds) (c .says) in
-      keep-ok p (a .seconds) (a .octets) l (c .long) (record { extent = c .extent; least = omega arith; most = omega arith })
+      keep-ok p (a .seconds) (a .sender) (a .octets) l (c .station) (c .long) (record { extent = c .extent; least = omega arith; most = omega arith })
 
 -- Every place by itself
 

@@ -1,5 +1,5 @@
 -- The calls that answer done or a refusal: Start (N6), seconds passed (N8), link lost (N9).
--- Each gives the answer, the three arrays and every octet of the buffer; and its refusal number by R1, R2 and R11.
+-- Each gives the answer, the four arrays and every octet of the buffer; and its refusal number by R1, R2 and R11.
 use Prim.Native.Nat.{ℕ}
 use mathlib.Core.Path.{_≡_}
 use mathlib.Core.Bool.{not}
@@ -25,7 +25,7 @@ refusalOfAnswer (Refused n) = n
 abbrev pub refusedOutcome : Table → ℕ → Outcome
 refusedOutcome t n = record { table = t; answer = Refused n }
 
--- what a call leaves: answer, numbers and octets
+-- what a call leaves: answer, numbers, senders and octets
 pub record After : Type 0 where
   pub outcome : Outcome
   pub buf : List ℕ

@@ -2,20 +2,28 @@
 -- A free place stays as it is.
 use Prim.Native.Nat.{ℕ, _-_}
 use lib.Dec.{leb, eqb}
-use Rattle.tally.specs.Tests.{pick, both}
-use Rattle.place.specs.State.{Place, used, free}
+use Rattle.tally.specs.Tests.{pick}
+use Rattle.place.specs.State.{Place, free}
 use Rattle.freeing.specs.declared.change.Change.{Change}
 use Rattle.freeing.specs.declared.change.Change.the-variants.{Age, Lose}
+use Rattle.freeing.specs.declared.change.Fate.{Fate}
+use Rattle.freeing.specs.declared.change.Fate.the-variants.{Goes, Stays}
 
-unfoldable pub aged : ℕ → Place → Place
-aged s x =
-    pick (used x)
-    (pick (leb (x .seconds) s) free (record { port = x .port; seconds = x .seconds - s; len = x .len; body = x .body }))
-    x
+-- what becomes of a place that has n for a length, p for a port and so many seconds left
+abbrev pub fateOf : Change → ℕ → ℕ → ℕ → Fate
+fateOf (Age s) n p left = pick (eqb n 0) (Stays left) (pick (leb left s) Goes (Stays (left - s)))
+fateOf (Lose q) n p left = pick (eqb n 0) (Stays left) (pick (eqb p q) Goes (Stays left))
 
-unfoldable pub lost : ℕ → Place → Place
-lost p x = pick (both (used x) (eqb (x .port) p)) free x
+-- it is freed, or all of it stays but the seconds
+abbrev pub met : Fate → Place → Place
+met Goes x = free
+met (Stays left) x = record { port = x .port; seconds = left; len = x .len; sender = x .sender; body = x .body }
 
-abbrev pub changed : Change → Place → Place
-changed (Age s) x = aged s x
-changed (Lose p) x = lost p x
+unfoldable pub changed : Change → Place → Place
+changed c x = met (fateOf c (x .len) (x .port) (x .seconds)) x
+
+abbrev pub aged : ℕ → Place → Place
+aged s = changed (Age s)
+
+abbrev pub lost : ℕ → Place → Place
+lost p = changed (Lose p)

@@ -1,11 +1,10 @@
 // Seconds passed (N8) and a lost link (N9): both change each record by itself, so one loop serves both.
 // What happens to a record is one case of the enum.
 ghost use mathlib.Core.Path.{_≡_};
-ghost use Prim.Native.Nat.{_<_};
 ghost use lib.ListN.{length};
 ghost use Rattle.numbers.specs.Sizes.{places};
-ghost use Rattle.place.specs.State.{octets, state, changeAt, each};
-ghost use Rattle.freeing.specs.Changes.{changed, aged, lost};
+ghost use Rattle.place.specs.State.{octets, state, each};
+ghost use Rattle.freeing.specs.Changes.{fateOf, changed};
 ghost use Rattle.fitness.specs.Refusals.{refusalWhenUnfit, refusalOnPort};
 ghost use Rattle.freeing.specs.Calls.{Does, passed, linkLost};
 use crate::Answer;
@@ -24,44 +23,32 @@ pub(crate) enum Change {
     Lose(u8),
 }
 
-// Place i, after so many seconds.
-fn age_at(t: Table, buffer: &mut [u8], seconds: u16, i: usize) -> Table
-    requires { ⌜ (i < places) × (length (now buffer) ≡ octets) ⌝ }
-    ensures { λ r. ⌜ state r (now (buffer .exit)) ≡ changeAt (aged seconds) i (state t (now (buffer .entry))) ⌝ }
-{
-    if t.length[i] == 0 {
-        return t;
-    }
-    let left = t.seconds[i];
-    if left <= seconds {
-        return release(t, buffer, i);
-    }
-    let mut u = t;
-    u.seconds[i] = left - seconds;
-    u
+// What becomes of a place: it is freed, or it stays with so many seconds left.
+enum Fate {
+    Goes,
+    Stays(u16),
 }
 
-// Place i, after the link of port p is lost.
-fn lose_at(t: Table, buffer: &mut [u8], p: u8, i: usize) -> Table
-    requires { ⌜ (i < places) × (length (now buffer) ≡ octets) ⌝ }
-    ensures { λ r. ⌜ state r (now (buffer .exit)) ≡ changeAt (lost p) i (state t (now (buffer .entry))) ⌝ }
+// By the place's own numbers. A free place stays as it is.
+fn fate_of(change: Change, n: u16, p: u8, left: u16) -> Fate
+    ensures { λ r. ⌜ r ≡ fateOf change n p left ⌝ }
 {
-    if t.length[i] == 0 {
-        return t;
+    if n == 0 {
+        return Fate::Stays(left);
     }
-    if t.port[i] != p {
-        return t;
-    }
-    release(t, buffer, i)
-}
-
-fn change_at(t: Table, buffer: &mut [u8], change: Change, i: usize) -> Table
-    requires { ⌜ (i < places) × (length (now buffer) ≡ octets) ⌝ }
-    ensures { λ r. ⌜ state r (now (buffer .exit)) ≡ changeAt (changed change) i (state t (now (buffer .entry))) ⌝ }
-{
     match change {
-        Change::Age(seconds) => age_at(t, buffer, seconds, i),
-        Change::Lose(p) => lose_at(t, buffer, p, i),
+        Change::Age(seconds) => {
+            if left <= seconds {
+                return Fate::Goes;
+            }
+            Fate::Stays(left - seconds)
+        }
+        Change::Lose(q) => {
+            if p == q {
+                return Fate::Goes;
+            }
+            Fate::Stays(left)
+        }
     }
 }
 
@@ -71,7 +58,14 @@ fn change_all(t: Table, buffer: &mut [u8], change: Change) -> Table
 {
     let mut u = t;
     for i in 0..PLACES {
-        u = change_at(u, buffer, change, i);
+        match fate_of(change, u.length[i], u.port[i], u.seconds[i]) {
+            Fate::Goes => {
+                u = release(u, buffer, i);
+            }
+            Fate::Stays(left) => {
+                u.seconds[i] = left;
+            }
+        }
     }
     u
 }

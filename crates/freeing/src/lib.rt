@@ -10,6 +10,7 @@ pub use change::link_lost;
 pub use change::seconds_passed;
 use fitness::UNFIT;
 use numbers::PLACES;
+use numbers::Sender;
 use numbers::Table;
 use place::OCTETS;
 use whole::clear;
@@ -46,6 +47,7 @@ pub fn start(t: Table, buffer: &mut [u8]) -> Outcome
             port: [0; PLACES],
             seconds: [0; PLACES],
             length: [0; PLACES],
+            sender: [Sender { octets: [0; 6] }; PLACES],
         },
         answer: Answer::Done,
     }

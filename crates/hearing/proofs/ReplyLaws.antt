@@ -1,7 +1,7 @@
 -- Laws of a frame on a port: what each return tells, what the outline of a frame says of its LLDPDU, and the refusal number.
 -- The table's own counts are those of the rules (room-share), so the shares decide as the rules say.
 use Prim.Native.Nat.{ℕ, _≤_, _<_}
-use mathlib.Core.Path.{_≡_, refl, sym, ap, _∙_}
+use mathlib.Core.Path.{_≡_, refl, sym, ap, ap₂, _∙_}
 use mathlib.Core.List.{List, [], _∷_}
 use mathlib.Core.Logic.{_≢_}
 use mathlib.Core.Bool.{Bool, true, false, not}
@@ -22,7 +22,7 @@ use Rattle.lldpdu.proofs.ExtentLaws.{not-both, good, outline-extent}
 use Rattle.lldpdu.proofs.Few.{Few, extent-few}
 use Rattle.lldpdu.proofs.RowsLaws.{dueIn, extent-rows}
 use Rattle.lldpdu.proofs.Stable.{sized}
-use Rattle.reader.specs.Frame.{frameOk, onFrame, frameRows}
+use Rattle.reader.specs.Frame.{sourceOf, frameOk, onFrame, frameRows}
 use Rattle.reader.proofs.FrameLaws.{frame-size, on-good, on-bad}
 use Rattle.rules.specs.Identity.{Ident}
 use Rattle.rules.specs.Events.{Announcement, Heard, unread, says, whose}
@@ -35,9 +35,9 @@ use Rattle.rules.specs.declared.Reply.the-variants.{Refreshed, Gone, UnknownGoo
 use Rattle.numbers.specs.Sizes.{ports, places, common}
 use Rattle.numbers.specs.Numbers.{holds}
 use Rattle.numbers.specs.declared.Table.{Table}
-use Rattle.place.specs.State.{State, size, state, at, put, free, keep, ident, said, find, countRecords}
+use Rattle.place.specs.State.{Place, State, size, state, at, put, free, keep, ident, whoseIn, said, find, countRecords}
 use Rattle.fitness.specs.Fit.{fit}
-use Rattle.hearing.specs.Frame.{heardOf, heardIn, Told, reception, told, telling, heardAt, heardByRoom, heardNew, heardSaying, onHeard, heard, isNew, roomRows, refusalOnFrame, Hears}
+use Rattle.hearing.specs.Frame.{heardOf, heardIn, Told, reception, told, telling, kept, heardAt, heardByRoom, heardNew, heardSaying, onHeard, heard, isNew, roomRows, refusalOnFrame, Hears}
 use Rattle.hearing.specs.declared.Reception.{Reception}
 use Rattle.place.proofs.WhoseLaws.{outline-ident}
 use Rattle.fitness.proofs.FitLaws.{fit-parts}
@@ -49,12 +49,12 @@ pub tells : {o : Reception} {t : Table} {a : Reply} {b : List ℕ} {s : State} �
 tells {a = a} {b = b} e d = ap (λ (x : Reception). told x b) e ∙ ap (telling a) d
 
 -- a known identity
-module _ (k p n : ℕ) (l : List ℕ) (s : State) where
-  pub at-gone : n ≡ 0 → telling Gone (put s k free) ≡ heardAt k p n l s
+module _ (k n : ℕ) (x : Place) (s : State) where
+  pub at-gone : n ≡ 0 → telling Gone (put s k free) ≡ heardAt k n x s
   unfolding heardAt
   at-gone e = rw (eq-eqb n 0 e)
 
-  pub at-kept : n ≢ 0 → telling Refreshed (put s k (keep p n l)) ≡ heardAt k p n l s
+  pub at-kept : n ≢ 0 → telling Refreshed (put s k x) ≡ heardAt k n x s
   unfolding heardAt
   at-kept u = rw (ne-eqb n 0 u)
 
@@ -63,39 +63,36 @@ pub room-share : (s : State) (w : Ident) → room ports (countRecords s) w ≡ s
 unfolding room countRecords holds at
 room-share s w = refl
 
-module _ (p n : ℕ) (l : List ℕ) (s : State) where
-  abbrev w : Ident
-  w = whose p (said l)
-
-  pub new-goodbye : n ≡ 0 → telling UnknownGoodbye s ≡ heardNew p n w l s
+module _ (n : ℕ) (w : Ident) (x : Place) (s : State) where
+  pub new-goodbye : n ≡ 0 → telling UnknownGoodbye s ≡ heardNew n w x s
   unfolding heardNew
   new-goodbye e = rw (eq-eqb n 0 e)
 
-  pub new-room : {r : Room} → n ≢ 0 → r ≡ share ports (holds (s .table)) p → {q : Room} → r ≡ q → heardByRoom q p n l s ≡ heardNew p n w l s
+  pub new-room : {r : Room} → n ≢ 0 → r ≡ share ports (holds (s .table)) (w .port) → {q : Room} → r ≡ q → heardByRoom q x s ≡ heardNew n w x s
   unfolding heardNew
   new-room u e d = rw (ne-eqb n 0 u, room-share s w, sym e ∙ d)
 
 -- what the code has of an LLDPDU l, by its outline
-module _ (p : ℕ) (l : List ℕ) (s : State) {o : Outline} (e : o ≡ outlineOf l) where
+module _ (p : ℕ) (sender l : List ℕ) (s : State) {o : Outline} (e : o ≡ outlineOf l) where
   -- k is the place that the code found for its identity
   module _ {k : ℕ} (q : k ≡ find s (ident p (idMeant l (o .chassis)) (idMeant l (o .port)))) where
-    found : k ≡ find s (whose p (said l))
+    found : k ≡ find s (whoseIn p l)
     found = q ∙ ap (find s) (outline-ident p l e)
 
-    pub saying-known : k < places → heardAt k p (o .seconds) l s ≡ heardSaying p (said l) s
-    unfolding heardSaying said
-    saying-known h = rw (← found, lt-ltb k places h) (ap (λ (x : Outline). heardAt k p (x .seconds) l s) e)
+    pub saying-known : k < places → heardAt k (o .seconds) (keep p (o .seconds) sender l) s ≡ heardSaying p (said sender l) s
+    unfolding heardSaying
+    saying-known h = rw (← found, lt-ltb k places h) (ap (λ (x : Outline). heardAt k (x .seconds) (keep p (x .seconds) sender l) s) e)
 
-    pub saying-new : places ≤ k → heardNew p (o .seconds) (whose p (said l)) l s ≡ heardSaying p (said l) s
-    unfolding heardSaying said
-    saying-new h = rw (← found, le-ltb k places h) (ap (λ (x : Outline). heardNew p (x .seconds) (whose p (said l)) l s) e)
+    pub saying-new : places ≤ k → heardNew (o .seconds) (whoseIn p l) (keep p (o .seconds) sender l) s ≡ heardSaying p (said sender l) s
+    unfolding heardSaying
+    saying-new h = rw (← found, le-ltb k places h) (ap (λ (x : Outline). heardNew (x .seconds) (whoseIn p l) (keep p (x .seconds) sender l) s) e)
 
 -- The LLDPDU of a frame, by the outline that the reader gives
 
 module _ (f : List ℕ) {o : Outline} (i : o ≡ onFrame (refusedOutline 3) outlineOf f) where
-  heard-in : {x : Extent} → o .extent ≡ x → heardIn x (drop 14 f) ≡ heardOf f
+  heard-in : {x : Extent} → o .extent ≡ x → heardIn x (sourceOf f) (drop 14 f) ≡ heardOf f
   unfolding heardOf
-  heard-in e = ap (λ (x : Extent). heardIn x (drop 14 f)) (sym e ∙ ap (λ (x : Outline). x .extent) i)
+  heard-in e = ap (λ (x : Extent). heardIn x (sourceOf f) (drop 14 f)) (sym e ∙ ap (λ (x : Outline). x .extent) i)
 
   pub unread-tells : (p : ℕ) (s : State) {n : ℕ} → o .extent ≡ extent-is.Refused n → telling (Refused n) s ≡ onHeard (heardOf f) p s
   unread-tells p s e = ap (λ (x : Heard). onHeard x p s) (heard-in e)
@@ -125,8 +122,8 @@ module _ (f : List ℕ) {o : Outline} (i : o ≡ onFrame (refusedOutline 3) outl
       pub same-outline : o ≡ outlineOf l
       same-outline = from-rest ∙ sym (kept-outline (drop 14 f) e rest-extent) ∙ ap outlineOf (sym t)
 
-      pub saying-tells : (p : ℕ) (s : State) → heardSaying p (said l) s ≡ onHeard (heardOf f) p s
-      saying-tells p s = ap (λ (x : List ℕ). heardSaying p (said x) s) t ∙ ap (λ (x : Heard). onHeard x p s) (heard-in v)
+      pub saying-tells : (p : ℕ) (s : State) {sender : List ℕ} → sender ≡ sourceOf f → heardSaying p (said sender l) s ≡ onHeard (heardOf f) p s
+      saying-tells p s q = ap₂ (λ (x y : List ℕ). heardSaying p (said x y) s) q t ∙ ap (λ (x : Heard). onHeard x p s) (heard-in v)
 
 -- The call
 
@@ -154,8 +151,8 @@ module _ (s : State) (p : ℕ) (f : fit s ≡ true) (l : p < ports) where
       (go (ltb (find s (whose p a)) places) (eqb (a .seconds) 0) (ltb h sure) (eqb h most) (eqb (beyond ports (holds (s .table))) common) (λ e. ne-eqb h most (omega (arith, ltb-true h sure e))))
     where
       go : (known goodbye few full taken : Bool) → (few ≡ true → full ≡ false)
-          → refusalOfReply (pick known (pick goodbye (telling Gone (put s (find s (whose p a)) free)) (telling Refreshed (put s (find s (whose p a)) (keep p (a .seconds) (a .octets)))))
-          (pick goodbye (telling UnknownGoodbye s) (heardByRoom (pick few Enough (pick full Full (pick taken Taken Enough))) p (a .seconds) (a .octets) s)) .outcome .reply)
+          → refusalOfReply (pick known (pick goodbye (telling Gone (put s (find s (whose p a)) free)) (telling Refreshed (put s (find s (whose p a)) (kept p a))))
+          (pick goodbye (telling UnknownGoodbye s) (heardByRoom (pick few Enough (pick full Full (pick taken Taken Enough))) (kept p a) s)) .outcome .reply)
           ≡ pick (both (both (not goodbye) (not known)) full) 7 (pick (both (both (not goodbye) (not known)) (both (not few) (both (not full) (both taken true)))) 8 0)
       go true true few full taken e = refl
       go true false few full taken e = refl
@@ -171,10 +168,10 @@ module _ (s : State) (p : ℕ) (f : fit s ≡ true) (l : p < ports) where
   heard-refusal f = rw (extent-rows (drop 14 f) (roomRows (heardOf f) p s)) (go (frameOk f) (extentOf (drop 14 f)))
     where
       go : (b : Bool) (e : Extent)
-          → refusalOfReply (onHeard (heardIn (pick b (outlineAt e (drop 14 f)) (refusedOutline 3) .extent) (drop 14 f)) p s .outcome .reply)
-          ≡ pick (not b) 3 (dueIn e (firstDue (roomRows (heardIn (pick b (outlineAt e (drop 14 f)) (refusedOutline 3) .extent) (drop 14 f)) p s)))
+          → refusalOfReply (onHeard (heardIn (pick b (outlineAt e (drop 14 f)) (refusedOutline 3) .extent) (sourceOf f) (drop 14 f)) p s .outcome .reply)
+          ≡ pick (not b) 3 (dueIn e (firstDue (roomRows (heardIn (pick b (outlineAt e (drop 14 f)) (refusedOutline 3) .extent) (sourceOf f) (drop 14 f)) p s)))
       go true (extent-is.Refused k) = refl
-      go true (extent-is.Octets e) = said-refusal (said (take e (drop 14 f)))
+      go true (extent-is.Octets e) = said-refusal (said (sourceOf f) (take e (drop 14 f)))
       go false e = refl
 
 pub hears-exactly : (p : ℕ) (f : List ℕ) (s : State) {o : Reception} {b : List ℕ} → told o b ≡ heard p f s → Hears p f s o b

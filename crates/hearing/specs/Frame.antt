@@ -1,17 +1,17 @@
--- A frame on a port (N7): the answer, the three arrays and every octet of the buffer, refusals among them.
+-- A frame on a port (N7): the answer, the four arrays and every octet of the buffer, refusals among them.
 -- The room rule is that of rules/specs/Shares.antt, over the number of records that pass a test.
 use Prim.Native.Nat.{ℕ}
 use mathlib.Core.Path.{_≡_}
 use mathlib.Core.Bool.{Bool, not}
 use mathlib.Core.List.{List, [], _∷_}
-use lib.ListN.{take, drop}
+use lib.ListN.{take}
 use lib.Dec.{ltb, leb, eqb}
 use Rattle.tally.specs.Tests.{pick, both, all}
 use Rattle.tally.specs.Due.{firstDue}
 use Rattle.lldpdu.specs.Outline.{refusedOutline, outlineOf}
 use Rattle.walk.specs.declared.Extent.{Extent}
 use Rattle.walk.specs.declared.Extent.the-variants as extent-is
-use Rattle.reader.specs.Frame.{onFrame, frameRows}
+use Rattle.reader.specs.Frame.{sourceOf, lldpduOf, onFrame, frameRows}
 use Rattle.rules.specs.Identity.{Ident}
 use Rattle.rules.specs.Events.{Announcement, Heard, unread, says, whose}
 use Rattle.rules.specs.Shares.{sure, most, beyond, room}
@@ -23,22 +23,23 @@ use Rattle.rules.specs.declared.Reply.the-variants.{Recorded, Refreshed, Gone, 
 use Rattle.numbers.specs.Sizes.{ports, places, common}
 use Rattle.numbers.specs.Numbers.{holds, firstFree}
 use Rattle.numbers.specs.declared.Table.{Table}
-use Rattle.place.specs.State.{State, put, free, keep, said, find, countRecords}
+use Rattle.place.specs.State.{Place, State, put, free, keep, said, find, countRecords}
 use Rattle.fitness.specs.Fit.{fit}
 use Rattle.hearing.specs.declared.Reception.{Reception}
 
--- what the reader says of a frame: its extent decides, and the LLDPDU ends with its End (N3)
+-- the extent that the reader gives a frame
 abbrev pub extentOn : List ℕ → Extent
 extentOn f = onFrame (refusedOutline 3) outlineOf f .extent
 
-abbrev pub heardIn : Extent → List ℕ → Heard
-heardIn (extent-is.Refused k) d = unread k
-heardIn (extent-is.Octets e) d = says (said (take e d))
+-- what is heard by it: the LLDPDU ends with its End, and the source of the frame is its sender (N3)
+abbrev pub heardIn : Extent → List ℕ → List ℕ → Heard
+heardIn (extent-is.Refused k) sender d = unread k
+heardIn (extent-is.Octets e) sender d = says (said sender (take e d))
 
 unfoldable pub heardOf : List ℕ → Heard
-heardOf f = heardIn (extentOn f) (drop 14 f)
+heardOf f = heardIn (extentOn f) (sourceOf f) (lldpduOf f)
 
--- what a call leaves: answer, numbers and octets
+-- what a call leaves: answer, numbers, senders and octets
 pub record Told : Type 0 where
   pub outcome : Reception
   pub buf : List ℕ
@@ -55,24 +56,28 @@ telling a s = told (reception (s .table) a) (s .buf)
 abbrev pub stateTold : Told → State
 stateTold t = record { table = t .outcome .table; buf = t .buf }
 
--- the record at place k hears an LLDPDU l with n seconds to live
-unfoldable pub heardAt : ℕ → ℕ → ℕ → List ℕ → State → Told
-heardAt k p n l s = pick (eqb n 0) (telling Gone (put s k free)) (telling Refreshed (put s k (keep p n l)))
+-- what a place is to keep of an announcement that was heard on port p
+abbrev pub kept : ℕ → Announcement → Place
+kept p a = keep p (a .seconds) (a .sender) (a .octets)
+
+-- the record at place k is heard again with n seconds to live, and x is what to keep
+unfoldable pub heardAt : ℕ → ℕ → Place → State → Told
+heardAt k n x s = pick (eqb n 0) (telling Gone (put s k free)) (telling Refreshed (put s k x))
 
 -- what the room that there is makes of a new record
-abbrev pub heardByRoom : Room → ℕ → ℕ → List ℕ → State → Told
-heardByRoom Full p n l s = telling (Refused 7) s
-heardByRoom Taken p n l s = telling (Refused 8) s
-heardByRoom Enough p n l s = telling Recorded (put s (firstFree (s .table)) (keep p n l))
+abbrev pub heardByRoom : Room → Place → State → Told
+heardByRoom Full x s = telling (Refused 7) s
+heardByRoom Taken x s = telling (Refused 8) s
+heardByRoom Enough x s = telling Recorded (put s (firstFree (s .table)) x)
 
-unfoldable pub heardNew : ℕ → ℕ → Ident → List ℕ → State → Told
-heardNew p n w l s = pick (eqb n 0) (telling UnknownGoodbye s) (heardByRoom (room ports (countRecords s) w) p n l s)
+unfoldable pub heardNew : ℕ → Ident → Place → State → Told
+heardNew n w x s = pick (eqb n 0) (telling UnknownGoodbye s) (heardByRoom (room ports (countRecords s) w) x s)
 
 unfoldable pub heardSaying : ℕ → Announcement → State → Told
 heardSaying p a s =
     pick (ltb (find s (whose p a)) places)
-    (heardAt (find s (whose p a)) p (a .seconds) (a .octets) s)
-    (heardNew p (a .seconds) (whose p a) (a .octets) s)
+    (heardAt (find s (whose p a)) (a .seconds) (kept p a) s)
+    (heardNew (a .seconds) (whose p a) (kept p a) s)
 
 abbrev pub onHeard : Heard → ℕ → State → Told
 onHeard (unread k) p s = telling (Refused k) s

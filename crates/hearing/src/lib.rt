@@ -6,9 +6,8 @@ ghost use mathlib.Core.Bool.{true};
 ghost use lib.ListN.{length};
 ghost use Rattle.ids.specs.Id.{idMeant};
 ghost use Rattle.lldpdu.specs.Outline.{outlineOf};
-ghost use Rattle.rules.specs.Events.{whose};
 ghost use Rattle.numbers.specs.Sizes.{ports, places};
-ghost use Rattle.place.specs.State.{size, octets, state, find, ident, said};
+ghost use Rattle.place.specs.State.{size, octets, state, keep, find, ident, whoseIn, said};
 ghost use Rattle.fitness.specs.Fit.{fit};
 ghost use Rattle.hearing.specs.Frame.{heardOf, reception, told, heardAt, heardNew, heardSaying, onHeard, Hears};
 use fitness::NO_PORT;
@@ -25,7 +24,9 @@ use numbers::room_of;
 use place::is_of;
 use place::release;
 use place::store;
+use reader::HEADER;
 use reader::outline_frame;
+use reader::source_of;
 use rules::Reply;
 use rules::Room;
 use text::Part;
@@ -43,11 +44,10 @@ pub struct Reception {
 
 // The place of a record with this identity, or PLACES where it is new (N2).
 fn place_of(t: Table, buffer: &[u8], p: u8, text: &[u8], chassis: IdPart, port: IdPart) -> usize
-    requires { ⌜ length (now buffer) ≡ octets ⌝ }
     ensures { λ r. ⌜ r ≡ find (state t (now (buffer .entry))) (ident p (idMeant (now (text .entry)) chassis) (idMeant (now (text .entry)) port)) ⌝ }
 {
     for i in 0..PLACES {
-        if is_of(t, buffer, i, p, text, chassis, port) {
+        if is_of(buffer, i, t.length[i], t.port[i], p, text, chassis, port) {
             return i;
         }
     }
@@ -65,22 +65,37 @@ fn reply_with(t: Table, reply: Reply) -> Reception
 }
 
 // A goodbye frees the place; any other announcement is kept in it.
-fn hear_known(t: Table, buffer: &mut [u8], k: usize, p: u8, seconds: u16, l: &[u8]) -> Reception
+fn hear_known(
+    t: Table,
+    buffer: &mut [u8],
+    k: usize,
+    p: u8,
+    seconds: u16,
+    sender: [u8; 6],
+    l: &[u8],
+) -> Reception
     requires { ⌜ (k < places) × ((length (now buffer) ≡ octets) × (length (now l) ≤ size)) ⌝ }
-    ensures { λ r. ⌜ told r (now (buffer .exit)) ≡ heardAt k p seconds (now (l .entry)) (state t (now (buffer .entry))) ⌝ }
+    ensures { λ r. ⌜ told r (now (buffer .exit)) ≡ heardAt k seconds (keep p seconds sender (now (l .entry))) (state t (now (buffer .entry))) ⌝ }
 {
     if seconds == 0 {
         let u = release(t, buffer, k);
         return reply_with(u, Reply::Gone);
     }
-    let u = store(t, buffer, k, p, seconds, l);
+    let u = store(t, buffer, k, p, seconds, sender, l);
     reply_with(u, Reply::Refreshed)
 }
 
 // The shares decide; a fit table with room has a free place, so there is no branch without one.
-fn hear_new(t: Table, buffer: &mut [u8], p: u8, seconds: u16, l: &[u8]) -> Reception
+fn hear_new(
+    t: Table,
+    buffer: &mut [u8],
+    p: u8,
+    seconds: u16,
+    sender: [u8; 6],
+    l: &[u8],
+) -> Reception
     requires { ⌜ (fit (state t (now buffer)) ≡ true) × ((p < ports) × (length (now l) ≤ size)) ⌝ }
-    ensures { λ r. ⌜ told r (now (buffer .exit)) ≡ heardNew p seconds (whose p (said (now (l .entry)))) (now (l .entry)) (state t (now (buffer .entry))) ⌝ }
+    ensures { λ r. ⌜ told r (now (buffer .exit)) ≡ heardNew seconds (whoseIn p (now (l .entry))) (keep p seconds sender (now (l .entry))) (state t (now (buffer .entry))) ⌝ }
 {
     if seconds == 0 {
         return reply_with(t, Reply::UnknownGoodbye);
@@ -89,22 +104,22 @@ fn hear_new(t: Table, buffer: &mut [u8], p: u8, seconds: u16, l: &[u8]) -> Recep
         Room::Full => reply_with(t, Reply::Refused(PORT_FULL)),
         Room::Taken => reply_with(t, Reply::Refused(COMMON_TAKEN)),
         Room::Enough => {
-            let u = store(t, buffer, first_free(t), p, seconds, l);
+            let u = store(t, buffer, first_free(t), p, seconds, sender, l);
             reply_with(u, Reply::Recorded)
         }
     }
 }
 
 // What an LLDPDU l that is valid does; o is its outline.
-fn hear(t: Table, buffer: &mut [u8], p: u8, o: Outline, l: &[u8]) -> Reception
+fn hear(t: Table, buffer: &mut [u8], p: u8, o: Outline, sender: [u8; 6], l: &[u8]) -> Reception
     requires { ⌜ (fit (state t (now buffer)) ≡ true) × ((p < ports) × ((length (now l) ≤ size) × (o ≡ outlineOf (now l)))) ⌝ }
-    ensures { λ r. ⌜ told r (now (buffer .exit)) ≡ heardSaying p (said (now (l .entry))) (state t (now (buffer .entry))) ⌝ }
+    ensures { λ r. ⌜ told r (now (buffer .exit)) ≡ heardSaying p (said sender (now (l .entry))) (state t (now (buffer .entry))) ⌝ }
 {
     let k = place_of(t, buffer, p, l, o.chassis, o.port);
     if k < PLACES {
-        return hear_known(t, buffer, k, p, o.seconds, l);
+        return hear_known(t, buffer, k, p, o.seconds, sender, l);
     }
-    hear_new(t, buffer, p, o.seconds, l)
+    hear_new(t, buffer, p, o.seconds, sender, l)
 }
 
 // A frame on a port that there is, on a fit table.
@@ -117,8 +132,14 @@ fn hear_frame(t: Table, buffer: &mut [u8], p: u8, frame: &[u8]) -> Reception
     match extent {
         Extent::Refused(n) => reply_with(t, Reply::Refused(n)),
         Extent::Octets(e) => {
-            let l = text_of(frame, Part { start: 14, len: e });
-            hear(t, buffer, p, o, l)
+            let l = text_of(
+                frame,
+                Part {
+                    start: HEADER,
+                    len: e,
+                },
+            );
+            hear(t, buffer, p, o, source_of(frame), l)
         }
     }
 }

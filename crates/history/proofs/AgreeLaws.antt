@@ -31,12 +31,12 @@ use Rattle.history.proofs.CountsLaws.{named-distinct, unnamed, passing-
 unfoldable pub recordFor : Ident → Option Latest → Option Rec
 recordFor w none = none
 recordFor w (some e) =
-    pick (ltb (e .since) (e .said .seconds)) (some (record { who = w; left = e .said .seconds - e .since; octets = e .said .octets })) none
+    pick (ltb (e .since) (e .said .seconds)) (some (record { who = w; left = e .said .seconds - e .since; octets = e .said .octets; sender = e .said .sender })) none
 
 record-known : (w : Ident) (o : Option Latest) → isSome (recordFor w o) ≡ inForce o
 unfolding recordFor
 record-known w none = refl
-record-known w (some e) = go (ltb (e .since) (e .said .seconds)) (record { who = w; left = e .said .seconds - e .since; octets = e .said .octets })
+record-known w (some e) = go (ltb (e .since) (e .said .seconds)) (record { who = w; left = e .said .seconds - e .since; octets = e .said .octets; sender = e .said .sender })
   where
     go : (b : Bool) (r : Rec) → isSome (pick b (some r) none) ≡ b
     go true r = refl
@@ -86,7 +86,7 @@ tick-record s w none = refl
 tick-record s w (some e) = go (ltb (e .since) (e .said .seconds)) refl (ltb (e .since + s) (e .said .seconds)) refl (leb (e .said .seconds - e .since) s) refl
   where
     with-left : ℕ → Option Rec
-    with-left k = some (record { who = w; left = k; octets = e .said .octets })
+    with-left k = some (record { who = w; left = k; octets = e .said .octets; sender = e .said .sender })
 
     go : (a : Bool) → ltb (e .since) (e .said .seconds) ≡ a → (b : Bool) → ltb (e .since + s) (e .said .seconds) ≡ b → (c : Bool) → leb (e .said .seconds - e .since) s ≡ c
         → onRecord (tick s) (pick a (with-left (e .said .seconds - e .since)) none) ≡ pick b (with-left (e .said .seconds - (e .since + s))) none
@@ -105,7 +105,7 @@ unplug-record p w none = ap (recordFor w) (sym (losing-none p w))
 unplug-record p w (some e) = go (eqb (w .port) p) refl (ltb (e .since) (e .said .seconds)) refl
   where
     rec : Rec
-    rec = record { who = w; left = e .said .seconds - e .since; octets = e .said .octets }
+    rec = record { who = w; left = e .said .seconds - e .since; octets = e .said .octets; sender = e .said .sender }
 
     go : (a : Bool) → eqb (w .port) p ≡ a → (b : Bool) → ltb (e .since) (e .said .seconds) ≡ b → onRecord (unplug p) (pick b (some rec) none) ≡ recordFor w (pick a none (some e))
     go true d true q = rw d

@@ -125,27 +125,29 @@ module _ (n : ℕ) (h : History) (t : Places) (s : Sound n h t) where
   has-lookup : (r : Rec) → Has t r → lookup (r .who) t ≡ some r
   has-lookup r k = lookup-at r t (k .0) (s .fit .once) (k .1)
 
-  -- the record of an identity is the latest announcement of it
-  record-last : (r : Rec) (a : Announcement) (since : ℕ) → Has t r → Last n h (r .who) a since → (r .octets ≡ a .octets) × (since + r .left ≡ a .seconds)
+  -- what a record is to be, where a is the latest announcement of its identity
+  abbrev due : Rec → Announcement → ℕ → Rec
+  due r a since = record { who = r .who; left = a .seconds - since; octets = a .octets; sender = a .sender }
+
+  record-last : (r : Rec) (a : Announcement) (since : ℕ) → Has t r → Last n h (r .who) a since → (since < a .seconds) × (r ≡ due r a since)
   unfolding recordFor
   record-last r a since k l =
       let e = sym (has-lookup r k) ∙ s .agrees (r .who) ∙ ap (recordFor (r .who)) (in-words n h (r .who) a since .1 l) in
       go (ltb since (a .seconds)) refl e
     where
-      octetsIn : Option Rec → List ℕ
-      octetsIn none = r .octets
-      octetsIn (some y) = y .octets
+      recIn : Option Rec → Rec
+      recIn none = r
+      recIn (some y) = y
 
-      leftIn : Option Rec → ℕ
-      leftIn none = r .left
-      leftIn (some y) = y .left
-
-      go : (b : Bool) → ltb since (a .seconds) ≡ b → some r ≡ pick b (some (record { who = r .who; left = a .seconds - since; octets = a .octets })) none
-          → (r .octets ≡ a .octets) × (since + r .left ≡ a .seconds)
+      go : (b : Bool) → ltb since (a .seconds) ≡ b → some r ≡ pick b (some (due r a since)) none → (since < a .seconds) × (r ≡ due r a since)
       go false d z = absurd (Option·none-ne-some r (sym z))
-      go true d z =
-          let x : r .left ≡ a .seconds - since = ap leftIn z in
-          (ap octetsIn z, omega (arith, ltb-true since (a .seconds) d))
+      go true d z = (ltb-true since (a .seconds) d, ap recIn z)
+
+  left-last : (r : Rec) (a : Announcement) (since : ℕ) → Has t r → Last n h (r .who) a since → since + r .left ≡ a .seconds
+  left-last r a since k l =
+      let e = record-last r a since k l in
+      let x : r .left ≡ a .seconds - since = ap (λ (y : Rec). y .left) (e .1) in
+      omega (arith, e .0)
 
   knows-neighbour : (w : Ident) → Knows t w → Neighbour n h w
   unfolding present
@@ -169,8 +171,9 @@ demand3 n h =
     λ p a x. same-answer n h (run n h) s p (says a) ∙ new-answer n h p a x in
     record {
       exactly = λ w. (knows-neighbour n h t s w, neighbour-knows n h t s w);
-      octets = λ r a since k l. record-last n h t s r a since k l .0;
-      seconds-left = λ r a since k l. record-last n h t s r a since k l .1;
+      octets = λ r a since k l. ap (λ (y : Rec). y .octets) (record-last n h t s r a since k l .1);
+      sender = λ r a since k l. ap (λ (y : Rec). y .sender) (record-last n h t s r a since k l .1);
+      seconds-left = left-last n h t s;
       once = s .fit .once;
       answers = same-answer n h t s;
       sure-places = λ p a x l. new p a x ∙ ap (answerTo false false) (share-sure n (held n h) p l);

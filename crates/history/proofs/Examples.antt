@@ -1,11 +1,11 @@
--- The run cases (B13), computed twice: what the history answers and holds by its rules alone, and what the model's table does.
+-- The run cases (B13) and a neighbour from two sources, computed twice: what the history answers and holds by its rules alone, and what the model's table does.
 -- That the two agree on every history is `demand3`; these show that they say what B13 says.
 use Prim.Native.Nat.{ℕ, zero, suc, _+_, _-_}
 use mathlib.Core.Path.{_≡_, refl}
 use mathlib.Core.Bool.{false}
 use mathlib.Core.List.{List, [], _∷_, _++_}
 use mathlib.Core.Option.{none, some}
-use lib.ListN.{getD, replicate}
+use lib.ListN.{getD, drop, replicate}
 use Rattle.tally.specs.Counts.{sum}
 use Rattle.octets.specs.Address.{sameOctets}
 use Rattle.ids.specs.Id.{id, sameId}
@@ -24,9 +24,16 @@ half = 5
 abbrev bench-ports : ℕ
 bench-ports = half + half
 
--- one switch whose agents differ in port ID: agent k announces itself with some seconds
+-- an address that ends in k
+abbrev address : ℕ → List ℕ
+address k = 2 ∷ 0 ∷ 0 ∷ 0 ∷ 0 ∷ k ∷ []
+
+-- one switch whose agents differ in port ID: agent k announces itself with some seconds, from a source that ends in j
+abbrev agentFrom : ℕ → ℕ → ℕ → Announcement
+agentFrom j k seconds = record { chassis = id 4 (address 1); portId = id 7 (k ∷ []); seconds = seconds; octets = k ∷ seconds ∷ []; sender = address j }
+
 abbrev agent : ℕ → ℕ → Announcement
-agent k seconds = record { chassis = id 4 (2 ∷ 0 ∷ 0 ∷ 0 ∷ 0 ∷ 1 ∷ []); portId = id 7 (k ∷ []); seconds = seconds; octets = k ∷ seconds ∷ [] }
+agent k seconds = agentFrom k k seconds
 
 abbrev hello : ℕ → Heard
 hello k = says (agent k 120)
@@ -100,7 +107,7 @@ pub one-left : latest bench-ports aged (whose 0 (agent 1 120)) ≡ some (record 
 unfolding latest hearing answerBy countBy room share beyond sum same sameId sameOctets
 one-left = refl
 
-pub one-left-kept : getD (run bench-ports aged) 0 none ≡ some (record { who = whose 0 (agent 1 120); left = 1; octets = agent 1 120 .octets })
+pub one-left-kept : getD (run bench-ports aged) 0 none ≡ some (record { who = whose 0 (agent 1 120); left = 1; octets = agent 1 120 .octets; sender = address 1 })
 unfolding afterFrame reply tick room share beyond sum same sameId sameOctets
 one-left-kept = refl
 
@@ -111,3 +118,21 @@ then-gone = refl
 pub then-free : run bench-ports (passed 1 ∷ aged) ≡ run bench-ports []
 unfolding afterFrame reply tick room share beyond sum same sameId sameOctets
 then-free = refl
+
+-- Senders: one neighbour from two sources in turn is one record, and the second is its sender; a goodbye from a third frees its place
+
+abbrev two-sources : History
+two-sources = frame 0 (says (agentFrom 2 1 120)) ∷ first 0 1
+
+pub second-said : latest bench-ports two-sources (whose 0 (agent 1 120)) ≡ some (record { said = agentFrom 2 1 120; since = 0 })
+unfolding latest hearing answerBy countBy room share beyond sum same sameId sameOctets
+second-said = refl
+
+pub second-sender : run bench-ports two-sources
+    ≡ some (record { who = whose 0 (agent 1 120); left = 120; octets = agent 1 120 .octets; sender = address 2 }) ∷ drop 1 (run bench-ports [])
+unfolding afterFrame reply swap room share beyond sum same sameId sameOctets
+second-sender = refl
+
+pub third-frees : run bench-ports (frame 0 (says (agentFrom 3 1 0)) ∷ two-sources) ≡ run bench-ports []
+unfolding afterFrame reply swap room share beyond sum same sameId sameOctets
+third-frees = refl

@@ -49,6 +49,8 @@ pub record Demand3 (n : ℕ) (h : History) (t : Places) : Type 0 where
   pub exactly : (w : Ident) → Knows t w ↔ Neighbour n h w
   -- and it holds that announcement's octets."
   pub octets : (r : Rec) (a : Announcement) (since : ℕ) → Has t r → Last n h (r .who) a since → r .octets ≡ a .octets
+  -- asked for later: "the latest recorded announcement's octets and its sender"
+  pub sender : (r : Rec) (a : Announcement) (since : ℕ) → Has t r → Last n h (r .who) a since → r .sender ≡ a .sender
   -- with the seconds that are left of it
   pub seconds-left : (r : Rec) (a : Announcement) (since : ℕ) → Has t r → Last n h (r .who) a since → since + r .left ≡ a .seconds
   -- and in one place

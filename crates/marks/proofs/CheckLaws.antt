@@ -3,15 +3,16 @@
 use Prim.Native.Nat.{ℕ, _-_, _≤_, _<_}
 use mathlib.Core.Path.{_≡_, refl, sym, ap, _∙_}
 use mathlib.Core.Logic.{_≢_}
-use mathlib.Core.Bool.{Bool, true, false}
+use mathlib.Core.Bool.{Bool, true, false, not}
 use mathlib.Core.List.{List, [], _∷_}
 use native.Mathlib.Omega.{arith}
 use borrow.Author.Tests.{eq-eqb, ne-eqb, le-leb, lt-leb, lt-ltb, le-ltb}
-use lib.ListN.{length, getD, take, drop, length-take, length-drop}
+use lib.ListN.{length, getD, take, drop, length-drop}
 use lib.Seq.{take-all}
-use lib.Dec.{leb, ltb}
+use lib.Dec.{leb}
 use Rattle.tally.specs.Tests.{all}
 use Rattle.tally.proofs.TestsLaws.{all-fails}
+use Rattle.octets.specs.Address.{sameOctets, isGroup}
 use Rattle.octets.specs.Numbers.{pairOf}
 use Rattle.whole.specs.Whole.{zeros}
 use Rattle.lldpdu.specs.Outline.{outlineOf}
@@ -21,8 +22,8 @@ use Rattle.walk.specs.declared.Extent.the-variants.{Refused, Octets}
 use Rattle.lldpdu.specs.declared.outline.Outline.{Outline}
 use Rattle.numbers.specs.Sizes.{ports}
 use Rattle.place.proofs.WhoseLaws.{outline-ident}
-use Rattle.place.specs.State.{Place, size, ident}
-use Rattle.marks.specs.PlaceFit.{exactly, whole, okFree, okUsed, okPlace}
+use Rattle.place.specs.State.{Place, size, sixZeros, ident}
+use Rattle.marks.specs.PlaceFit.{exactly, freeTests, whole, usedTests, okFree, okUsed, okPlace}
 use Rattle.marks.specs.Marks.{lastOne, lastTwo, identityMark, check, checkFree, checkUsed, checkPlace}
 use Rattle.marks.specs.declared.Check.{Check}
 use Rattle.marks.specs.declared.Check.the-variants.{Unfit, Mark}
@@ -43,24 +44,27 @@ last-more l h = sym (rw (le-ltb (length l) 2 h))
 
 -- A free place (N5 b)
 
-module _ (p left : ℕ) (b : List ℕ) where
-  pub free-port : p ≢ 0 → Unfit ≡ checkFree p left b
+module _ (p left : ℕ) (sender b : List ℕ) where
+  -- one test that fails decides, wherever it stands
+  taken : (k : ℕ) → getD (freeTests p left sender b) k true ≡ false → Unfit ≡ checkFree p left sender b
   unfolding checkFree
-  free-port h = sym (rw (ne-eqb p 0 h))
+  taken k h = sym (rw (all-fails (freeTests p left sender b) k h))
 
-  module _ (h : p ≡ 0) where
-    pub free-seconds : left ≢ 0 → Unfit ≡ checkFree p left b
-    unfolding checkFree
-    free-seconds k = sym (rw (eq-eqb p 0 h, ne-eqb left 0 k))
+  pub free-port : p ≢ 0 → Unfit ≡ checkFree p left sender b
+  free-port h = taken 0 (ne-eqb p 0 h)
 
-    module _ (k : left ≡ 0) where
-      pub free-octets : zeros b ≡ false → Unfit ≡ checkFree p left b
-      unfolding checkFree
-      free-octets z = sym (rw (eq-eqb p 0 h, eq-eqb left 0 k, z))
+  pub free-seconds : left ≢ 0 → Unfit ≡ checkFree p left sender b
+  free-seconds h = taken 1 (ne-eqb left 0 h)
 
-      pub free-fit : zeros b ≡ true → Mark 0 ≡ checkFree p left b
-      unfolding checkFree
-      free-fit z = sym (rw (eq-eqb p 0 h, eq-eqb left 0 k, z))
+  pub free-sender : sameOctets sender (sixZeros .octets) ≡ false → Unfit ≡ checkFree p left sender b
+  free-sender h = taken 2 h
+
+  pub free-octets : zeros b ≡ false → Unfit ≡ checkFree p left sender b
+  free-octets h = taken 3 h
+
+  pub free-fit : p ≡ 0 → left ≡ 0 → sameOctets sender (sixZeros .octets) ≡ true → zeros b ≡ true → Mark 0 ≡ checkFree p left sender b
+  unfolding checkFree
+  free-fit h k n z = sym (rw (eq-eqb p 0 h, eq-eqb left 0 k, n, z))
 
 -- A used place (N5 c): one test that fails decides, wherever it stands
 
@@ -109,33 +113,33 @@ module _ (p left : ℕ) (l rest : List ℕ) {o : Outline} (e : o ≡ outlineOf l
 
 -- A place
 
--- what follows n octets in a place of m, of which a short buffer may lack some
-pub rest-whole : (n m : ℕ) (l : List ℕ) → take (m - n) (drop n (take m l)) ≡ drop n (take m l)
-rest-whole n m l = take-all (m - n) (drop n (take m l)) (omega (arith, length-drop n (take m l), length-take m l))
+-- what follows n octets
+pub rest-whole : (n : ℕ) (l : List ℕ) → take (length l) (drop n l) ≡ drop n l
+rest-whole n l = take-all (length l) (drop n l) (omega (arith, length-drop n l))
 
 module _ (x : Place) where
-  pub place-free : x .len ≡ 0 → checkFree (x .port) (x .seconds) (x .body) ≡ checkPlace x
+  pub place-free : x .len ≡ 0 → checkFree (x .port) (x .seconds) (x .sender) (x .body) ≡ checkPlace x
   unfolding checkFree checkPlace okPlace okFree
   place-free e = sym (rw (eq-eqb (x .len) 0 e))
 
   module _ (u : x .len ≢ 0) where
-    -- what is asked of a used place; here too one test that fails decides
-    abbrev wanted : List Bool
-    wanted = ltb (x .port) ports ∷ leb (x .len) size ∷ whole (take (x .len) (x .body)) (x .seconds) ∷ zeros (drop (x .len) (x .body)) ∷ []
-
-    misfit : (k : ℕ) → getD wanted k true ≡ false → Unfit ≡ checkPlace x
+    -- here too one test that fails decides
+    misfit : (k : ℕ) → getD (usedTests x) k true ≡ false → Unfit ≡ checkPlace x
     unfolding checkPlace okPlace okUsed
-    misfit k h = sym (rw (ne-eqb (x .len) 0 u, all-fails wanted k h))
+    misfit k h = sym (rw (ne-eqb (x .len) 0 u, all-fails (usedTests x) k h))
 
     pub place-port : ports ≤ x .port → Unfit ≡ checkPlace x
     place-port h = misfit 0 (le-ltb (x .port) ports h)
 
-    pub place-long : size < x .len → Unfit ≡ checkPlace x
-    place-long h = misfit 1 (lt-leb (x .len) size h)
+    pub place-group : isGroup (x .sender) ≡ true → Unfit ≡ checkPlace x
+    place-group h = misfit 1 (ap not h)
 
-    pub place-used : x .port < ports → x .len ≤ size → checkUsed (x .port) (x .seconds) (take (x .len) (x .body)) (drop (x .len) (x .body)) ≡ checkPlace x
+    pub place-long : size < x .len → Unfit ≡ checkPlace x
+    place-long h = misfit 2 (lt-leb (x .len) size h)
+
+    pub place-used : x .port < ports → isGroup (x .sender) ≡ false → x .len ≤ size → checkUsed (x .port) (x .seconds) (take (x .len) (x .body)) (drop (x .len) (x .body)) ≡ checkPlace x
     unfolding checkUsed checkPlace okPlace okUsed
-    place-used h k = sym (rw (ne-eqb (x .len) 0 u, lt-ltb (x .port) ports h, le-leb (x .len) size k))
+    place-used h g k = sym (rw (ne-eqb (x .len) 0 u, lt-ltb (x .port) ports h, g, le-leb (x .len) size k))
 
 -- a mark tells that the place is fit, and is its mark
 pub marked : (ok : Bool) (m n : ℕ) → Mark m ≡ check ok n → (ok ≡ true) × (m ≡ n)

@@ -2,19 +2,18 @@
 -- They are for speed; whether a table is fit does not depend on them (N5 d).
 use Prim.Native.Nat.{ℕ, _+_, _-_, _*_, _<_}
 use mathlib.Core.Path.{_≡_}
-use mathlib.Core.Bool.{Bool, true}
+use mathlib.Core.Bool.{Bool, true, not}
 use mathlib.Core.List.{List, [], _∷_}
 use lib.ListN.{length, getD}
 use lib.Dec.{ltb, eqb}
-use Rattle.tally.specs.Tests.{pick, all}
+use Rattle.tally.specs.Tests.{pick, either, all}
 use Rattle.tally.specs.Ranges.{allBelow}
 use Rattle.octets.specs.Numbers.{pairOf}
 use Rattle.whole.specs.Whole.{zeros}
 use Rattle.rules.specs.Identity.{Ident}
-use Rattle.rules.specs.Events.{whose}
 use Rattle.numbers.specs.Sizes.{places}
-use Rattle.place.specs.State.{Place, State, at, used, said, whoAt}
-use Rattle.marks.specs.PlaceFit.{whole, okPlace}
+use Rattle.place.specs.State.{Place, State, at, used, whoseIn, whoAt}
+use Rattle.marks.specs.PlaceFit.{freeTests, whole, okPlace}
 use Rattle.marks.specs.declared.Check.{Check}
 use Rattle.marks.specs.declared.Check.the-variants.{Unfit, Mark}
 use Rattle.marks.specs.declared.Marks.{Marks}
@@ -36,11 +35,11 @@ markAt x = pick (used x) (identityMark (whoAt x)) 0
 abbrev pub check : Bool → ℕ → Check
 check ok m = pick ok (Mark m) Unfit
 
-unfoldable pub checkFree : ℕ → ℕ → List ℕ → Check
-checkFree p left b = check (all (eqb p 0 ∷ eqb left 0 ∷ zeros b ∷ [])) 0
+unfoldable pub checkFree : ℕ → ℕ → List ℕ → List ℕ → Check
+checkFree p left sender b = check (all (freeTests p left sender b)) 0
 
 unfoldable pub checkUsed : ℕ → ℕ → List ℕ → List ℕ → Check
-checkUsed p left l rest = check (all (whole l left ∷ zeros rest ∷ [])) (identityMark (whose p (said l)))
+checkUsed p left l rest = check (all (whole l left ∷ zeros rest ∷ [])) (identityMark (whoseIn p l))
 
 unfoldable pub checkPlace : Place → Check
 checkPlace x = check (okPlace x) (markAt x)
@@ -49,6 +48,10 @@ checkPlace x = check (okPlace x) (markAt x)
 pub record Marked (s : State) (marks : List ℕ) : Type 0 where
   pub long : length marks ≡ places
   pub right : (k : ℕ) → k < places → getD marks k 0 ≡ markAt (at s k)
+
+-- place i, of which n octets are kept, is free, or no place below it has its mark
+unfoldable pub apart : List ℕ → ℕ → ℕ → Bool
+apart marks i n = either (eqb n 0) (allBelow (λ j. not (eqb (getD marks j 0) (getD marks i 0))) i)
 
 -- what the pass over all places gives
 pub record Checks (s : State) (m : Marks) : Type 0 where

@@ -2,11 +2,10 @@
 // Each LLDPDU is walked once, for validity, seconds and mark together. A shorter buffer is looked at as far as it goes; its length is `fitness`'s.
 ghost use mathlib.Core.Path.{_≡_};
 ghost use mathlib.Core.Bool.{false};
-ghost use Prim.Native.Nat.{_<_};
 ghost use lib.ListN.{replicate};
 ghost use Rattle.ids.specs.Id.{idMeant};
 ghost use Rattle.numbers.specs.Sizes.{places};
-ghost use Rattle.place.specs.State.{at, state, ident};
+ghost use Rattle.place.specs.State.{state, ident};
 ghost use Rattle.marks.specs.Marks.{lastOne, lastTwo, identityMark, checkFree, checkUsed, checkPlace, Checks};
 use ids::IdPart;
 use lldpdu::Extent;
@@ -14,8 +13,10 @@ use lldpdu::outline_lldpdu;
 use numbers::PLACES;
 use numbers::PORTS;
 use numbers::Table;
+use octets::is_group;
 use octets::octet;
 use octets::pair;
+use octets::same_six;
 use place::SIZE;
 use text::Part;
 use text::text_of;
@@ -62,14 +63,17 @@ fn identity_mark(p: u8, text: &[u8], chassis: IdPart, port: IdPart) -> u32
     front as u32 * 65536 + last_two(text_of(text, port.octets)) as u32
 }
 
-// A free place has numbers 0 and octets 0 (N5 b).
-fn check_free(p: u8, left: u16, b: &[u8]) -> Check
-    ensures { λ r. ⌜ r ≡ checkFree p left (now (b .entry)) ⌝ }
+// A free place has numbers 0, a sender of six zeros and octets 0 (N5 b).
+fn check_free(p: u8, left: u16, sender: [u8; 6], b: &[u8]) -> Check
+    ensures { λ r. ⌜ r ≡ checkFree p left sender (now (b .entry)) ⌝ }
 {
     if p != 0 {
         return Check::Unfit;
     }
     if left != 0 {
+        return Check::Unfit;
+    }
+    if !same_six(sender, [0; 6]) {
         return Check::Unfit;
     }
     if all_zero(b) {
@@ -106,25 +110,20 @@ fn check_used(p: u8, left: u16, l: &[u8], rest: &[u8]) -> Check
     }
 }
 
-fn check_place(t: Table, buffer: &[u8], i: usize) -> Check
-    requires { ⌜ i < places ⌝ }
-    ensures { λ r. ⌜ r ≡ checkPlace (at (state t (now (buffer .entry))) i) ⌝ }
+// A place by its own numbers, its sender and its octets b.
+fn check_place(p: u8, left: u16, length: u16, sender: [u8; 6], b: &[u8]) -> Check
+    ensures { λ r. ⌜ r ≡ checkPlace (record { port = p; seconds = left; len = length; sender = sender; body = now (b .entry) }) ⌝ }
 {
-    let b = text_of(
-        buffer,
-        Part {
-            start: i * SIZE,
-            len: SIZE,
-        },
-    );
-    let n = t.length[i] as usize;
-    let p = t.port[i];
-    if n == 0 {
-        return check_free(p, t.seconds[i], b);
+    if length == 0 {
+        return check_free(p, left, sender, b);
     }
     if p as usize >= PORTS {
         return Check::Unfit;
     }
+    if is_group(sender) {
+        return Check::Unfit;
+    }
+    let n = length as usize;
     if n > SIZE {
         return Check::Unfit;
     }
@@ -133,10 +132,10 @@ fn check_place(t: Table, buffer: &[u8], i: usize) -> Check
         b,
         Part {
             start: n,
-            len: SIZE - n,
+            len: b.len(),
         },
     );
-    check_used(p, t.seconds[i], l, rest)
+    check_used(p, left, l, rest)
 }
 
 pub fn marks_of(t: Table, buffer: &[u8]) -> Marks
@@ -145,7 +144,16 @@ pub fn marks_of(t: Table, buffer: &[u8]) -> Marks
 {
     let mut marks = [0u32; PLACES];
     for i in 0..PLACES {
-        match check_place(t, buffer, i) {
+        let b = text_of(
+            buffer,
+            Part {
+                start: i * SIZE,
+                len: SIZE,
+            },
+        );
+        let from = t.sender[i];
+        let sender = from.octets;
+        match check_place(t.port[i], t.seconds[i], t.length[i], sender, b) {
             Check::Unfit => {
                 return Marks {
                     fit: false,

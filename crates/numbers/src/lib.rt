@@ -1,4 +1,4 @@
-// The table's own numbers (N1): port, seconds left and length of every place, and all that follows from them alone.
+// The table but for its octets (N1): port, seconds left, length and sender of every place, and all that follows from the numbers alone.
 // The number of ports is one constant; places and common places follow from it.
 ghost use mathlib.Core.Path.{_≡_};
 ghost use Rattle.rules.specs.Shares.{beyond, share};
@@ -18,10 +18,16 @@ const SURE: u8 = 2;
 
 const MOST: u8 = 6;
 
+// The source of the frame that a record came in (N3). It is a struct, since a field of a struct cannot be an array of arrays.
+pub struct Sender {
+    pub octets: [u8; 6],
+}
+
 pub struct Table {
     pub port: [u8; PLACES],
     pub seconds: [u16; PLACES],
     pub length: [u16; PLACES],
+    pub sender: [Sender; PLACES],
 }
 
 // How many used places have this port (N10).

@@ -8,6 +8,7 @@ use reader::text_of;
 use table::OCTETS;
 use table::PLACES;
 use table::Reply;
+use table::Sender;
 use table::Table;
 use table::frame_on_port;
 
@@ -85,6 +86,7 @@ fn run_all(buffer: &mut [u8], input: [u8; INPUT], full: bool, thousands: u8) -> 
             port: [0; PLACES],
             seconds: [0; PLACES],
             length: [0; PLACES],
+            sender: [Sender { octets: [0; 6] }; PLACES],
         },
         refused: 0,
     };

@@ -4,9 +4,10 @@ use Prim.Native.Nat.{ℕ, _+_}
 use mathlib.Core.Path.{_≡_, refl, ap, sym, _∙_}
 use mathlib.Core.List.{List, _++_}
 use native.Mathlib.Numerals.{add-one}
-use lib.ListN.{set, take, drop, take-append-drop}
+use lib.ListN.{getD, set, take, drop, take-append-drop}
 use lib.Seq.{set-getD, drop-drop}
-use Rattle.place.specs.State.{Place, State, state, at, put, changeAt, each}
+use Rattle.numbers.specs.declared.Sender.{Sender}
+use Rattle.place.specs.State.{Place, State, noSender, state, at, put, changeAt, each}
 
 -- the octets of a place put back where they were
 body-back : (a n : ℕ) (l : List ℕ) → take a l ++ (take n (drop a l) ++ drop (a + n) l) ≡ l
@@ -15,23 +16,19 @@ body-back a n l =
     ∙ ap (λ (x : List ℕ). take a l ++ x) (take-append-drop n (drop a l))
     ∙ take-append-drop a l
 
--- a place put back as it is, and with other seconds
-module _ (s : State) (k : ℕ) where
-  pub put-at : put s k (at s k) ≡ s
-  unfolding put at
-  put-at = simp (set-getD, body-back)
+-- the sender of a place put back
+sender-back : (l : List Sender) (k : ℕ) → set l k (record { octets = getD l k noSender .octets }) ≡ l
+sender-back l k = set-getD l k noSender
 
-  pub put-seconds : (v : ℕ) → state (record { port = s .table .port; seconds = set (s .table .seconds) k v; length = s .table .length }) (s .buf)
-      ≡ put s k (record { port = at s k .port; seconds = v; len = at s k .len; body = at s k .body })
+-- a place put back with other seconds
+module _ (s : State) (k : ℕ) where
+  pub put-seconds : (v : ℕ) → state (record { port = s .table .port; seconds = set (s .table .seconds) k v; length = s .table .length; sender = s .table .sender }) (s .buf)
+      ≡ put s k (record { port = at s k .port; seconds = v; len = at s k .len; sender = at s k .sender; body = at s k .body })
   unfolding put at
-  put-seconds v = simp (set-getD, body-back)
+  put-seconds v = simp (set-getD, sender-back, body-back)
 
 -- a change, by what g makes of place k
 module _ (g : Place → Place) (k : ℕ) (s : State) where
-  pub change-stays : g (at s k) ≡ at s k → s ≡ changeAt g k s
-  unfolding changeAt
-  change-stays e = sym (ap (put s k) e ∙ put-at s k)
-
   pub change-puts : {x : Place} {r : State} → r ≡ put s k x → g (at s k) ≡ x → r ≡ changeAt g k s
   unfolding changeAt
   change-puts e d = e ∙ sym (ap (put s k) d)

@@ -9,7 +9,7 @@ use native.Mathlib.Nat.{eq-or-lt-of-le, le-of-suc-le-suc, not-suc-le-zero}
 use native.Mathlib.Omega.{arith}
 use lib.ListN.{length, take, drop, length-set, length-append, length-drop, take-append-drop}
 use lib.Seq.{getD-set-same, getD-set-other, drop-append-le, take-append-le, drop-drop, length-take-le, take-at, drop-at}
-use Rattle.place.specs.State.{Place, State, Sized, size, at, put, changeAt, each}
+use Rattle.place.specs.State.{Place, State, Sized, size, noSender, at, put, changeAt, each}
 
 -- Octets over octets
 
@@ -71,6 +71,7 @@ module _ (n : ℕ) (s : State) (z : Sized n s) (k : ℕ) (h : k < n) (p : Place)
         ports-long = length-set (s .table .port) k (p .port) ∙ z .ports-long;
         seconds-long = length-set (s .table .seconds) k (p .seconds) ∙ z .seconds-long;
         lengths-long = length-set (s .table .length) k (p .len) ∙ z .lengths-long;
+        senders-long = length-set (s .table .sender) k (record { octets = p .sender }) ∙ z .senders-long;
         buf-long = over-long (s .buf) (p .body) (k * size) size inside long ∙ z .buf-long;
       }
 
@@ -80,8 +81,9 @@ module _ (n : ℕ) (s : State) (z : Sized n s) (k : ℕ) (h : k < n) (p : Place)
       let a = getD-set-same (s .table .port) k (p .port) 0 (omega (arith, z .ports-long)) in
       let b = getD-set-same (s .table .seconds) k (p .seconds) 0 (omega (arith, z .seconds-long)) in
       let c = getD-set-same (s .table .length) k (p .len) 0 (omega (arith, z .lengths-long)) in
+      let f = getD-set-same (s .table .sender) k (record { octets = p .sender }) noSender (omega (arith, z .senders-long)) in
       let d = over-same (s .buf) (p .body) (k * size) size inside long in
-      λ i. record { port = a i; seconds = b i; len = c i; body = d i }
+      λ i. record { port = a i; seconds = b i; len = c i; sender = f i .octets; body = d i }
 
   pub at-put-other : (j : ℕ) → j ≢ k → at (put s k p) j ≡ at s j
   unfolding put at over
@@ -89,8 +91,9 @@ module _ (n : ℕ) (s : State) (z : Sized n s) (k : ℕ) (h : k < n) (p : Place)
       let a = getD-set-other (s .table .port) k j (p .port) 0 d in
       let b = getD-set-other (s .table .seconds) k j (p .seconds) 0 d in
       let c = getD-set-other (s .table .length) k j (p .len) 0 d in
+      let f = getD-set-other (s .table .sender) k j (record { octets = p .sender }) noSender d in
       let e = octets-other in
-      λ i. record { port = a i; seconds = b i; len = c i; body = e i }
+      λ i. record { port = a i; seconds = b i; len = c i; sender = f i .octets; body = e i }
     where
       octets-other : take size (drop (j * size) (over (s .buf) (k * size) size (p .body))) ≡ take size (drop (j * size) (s .buf))
       octets-other =

@@ -1,24 +1,34 @@
 -- Laws of a place that there is, and of one past the last: there is none, so nothing is kept there and nothing is written.
 -- Each early return of the code is one line here; where there is such a place, callers go on with `put` (there-put).
-use Prim.Native.Nat.{ℕ, _≤_, _<_}
+use Prim.Native.Nat.{ℕ, _*_, _≤_, _<_}
 use mathlib.Core.Path.{_≡_, sym, ap}
 use mathlib.Core.Logic.{_≢_}
-use mathlib.Core.List.{[]}
-use native.Mathlib.Omega.{arith}
+use mathlib.Core.List.{List, []}
 use borrow.Author.Tests.{eq-eqb, ne-eqb, le-leb, lt-leb, lt-ltb, le-ltb}
-use lib.ListN.{length, take, List·getD-eq-default}
+use lib.ListN.{length, take, drop}
+use Rattle.rules.specs.Identity.{Ident}
 use Rattle.numbers.specs.Sizes.{places}
-use Rattle.place.specs.State.{Place, State, size, octets, at, put, putThere, lldpduAt}
+use Rattle.place.specs.State.{Place, State, size, octets, at, put, putThere, lldpduAt, lldpduIn, recordIs, isOf}
 
--- Past the last place
+-- What is kept
 
-module _ (s : State) (k : ℕ) (long : length (s .table .length) ≡ places) (h : places ≤ k) where
-  pub past-free : at s k .len ≡ 0
+module _ (b : List ℕ) (k n : ℕ) where
+  pub past-empty : places ≤ k → [] ≡ lldpduIn b k n
+  unfolding lldpduIn
+  past-empty h = sym (rw (le-ltb k places h))
+
+  pub there-octets : k < places → take n (take size (drop (k * size) b)) ≡ lldpduIn b k n
+  unfolding lldpduIn
+  there-octets h = sym (rw (lt-ltb k places h))
+
+module _ (s : State) (k : ℕ) (h : k < places) where
+  pub there-lldpdu : lldpduIn (s .buf) k (at s k .len) ≡ lldpduAt (at s k)
   unfolding at
-  past-free = List·getD-eq-default (s .table .length) 0 (omega (arith, long, h))
+  there-lldpdu = sym (there-octets (s .buf) k (at s k .len) h)
 
-  pub past-empty : [] ≡ lldpduAt (at s k)
-  past-empty = sym (ap (λ (n : ℕ). take n (at s k .body)) past-free)
+  pub there-of : (w : Ident) → recordIs (at s k .len) (at s k .port) (lldpduIn (s .buf) k (at s k .len)) w ≡ isOf s w k
+  unfolding isOf
+  there-of w = ap (λ (l : List ℕ). recordIs (at s k .len) (at s k .port) l w) there-lldpdu
 
 -- Writing
 

@@ -1,4 +1,4 @@
--- The table's state: the struct of numbers beside the octets of the buffer; seen place by place (N1).
+-- The table's state: the struct of numbers and senders beside the octets of the buffer; seen place by place (N1).
 -- Every call is said by what it puts where; what is not named stays as it was.
 use Prim.Native.Nat.{ℕ, zero, suc, _+_, _*_}
 use mathlib.Core.Path.{_≡_}
@@ -12,8 +12,9 @@ use Rattle.whole.specs.Whole.{filled}
 use Rattle.lldpdu.specs.Outline.{outlineOf}
 use Rattle.ids.specs.Id.{Id, idMeant}
 use Rattle.rules.specs.Identity.{Ident, same}
-use Rattle.rules.specs.Events.{Announcement, whose}
+use Rattle.rules.specs.Events.{Announcement}
 use Rattle.numbers.specs.Sizes.{places}
+use Rattle.numbers.specs.declared.Sender.{Sender}
 use Rattle.numbers.specs.declared.Table.{Table}
 
 abbrev pub size : ℕ
@@ -26,6 +27,7 @@ pub record Place : Type 0 where
   pub port : ℕ
   pub seconds : ℕ
   pub len : ℕ
+  pub sender : List ℕ
   pub body : List ℕ
 
 pub record State : Type 0 where
@@ -35,6 +37,14 @@ pub record State : Type 0 where
 abbrev pub state : Table → List ℕ → State
 state t b = record { table = t; buf = b }
 
+-- the sender that a free place has (N4)
+abbrev pub sixZeros : Sender
+sixZeros = record { octets = replicate 6 0 }
+
+-- past the last place there is none
+abbrev pub noSender : Sender
+noSender = record { octets = [] }
+
 -- what place k holds
 unfoldable pub at : State → ℕ → Place
 at s k =
@@ -42,6 +52,7 @@ at s k =
       port = getD (s .table .port) k 0;
       seconds = getD (s .table .seconds) k 0;
       len = getD (s .table .length) k 0;
+      sender = getD (s .table .sender) k noSender .octets;
       body = take size (drop (k * size) (s .buf));
     }
 
@@ -54,6 +65,7 @@ put s k p =
             port = set (s .table .port) k (p .port);
             seconds = set (s .table .seconds) k (p .seconds);
             length = set (s .table .length) k (p .len);
+            sender = set (s .table .sender) k (record { octets = p .sender });
           };
       buf = take (k * size) (s .buf) ++ (p .body ++ drop (k * size + size) (s .buf));
     }
@@ -77,40 +89,53 @@ abbrev pub used : Place → Bool
 used x = not (eqb (x .len) 0)
 
 abbrev pub free : Place
-free = record { port = 0; seconds = 0; len = 0; body = replicate size 0 }
+free = record { port = 0; seconds = 0; len = 0; sender = sixZeros .octets; body = replicate size 0 }
 
 -- the LLDPDU that is kept (N3)
 abbrev pub lldpduAt : Place → List ℕ
 lldpduAt x = take (x .len) (x .body)
 
--- an LLDPDU l that was heard on port p is kept, with seconds left (N3)
-unfoldable pub keep : ℕ → ℕ → List ℕ → Place
-keep p left l = record { port = p; seconds = left; len = length l; body = filled l size }
+-- n octets of place k; past the last place there are none
+unfoldable pub lldpduIn : List ℕ → ℕ → ℕ → List ℕ
+lldpduIn b k n = pick (ltb k places) (take n (take size (drop (k * size) b))) []
+
+-- an LLDPDU l that was heard on port p is kept, with seconds left and its sender (N3)
+unfoldable pub keep : ℕ → ℕ → List ℕ → List ℕ → Place
+keep p left sender l = record { port = p; seconds = left; len = length l; sender = sender; body = filled l size }
 
 -- Identity (N2), by what the reader says of an LLDPDU
 
 abbrev pub ident : ℕ → Id → Id → Ident
 ident p c i = record { port = p; chassis = c; portId = i }
 
-unfoldable pub said : List ℕ → Announcement
-said l =
-    record {
-      chassis = idMeant l (outlineOf l .chassis);
-      portId = idMeant l (outlineOf l .port);
-      seconds = outlineOf l .seconds;
-      octets = l;
-    }
+unfoldable pub chassisIn : List ℕ → Id
+chassisIn l = idMeant l (outlineOf l .chassis)
+
+unfoldable pub portIdIn : List ℕ → Id
+portIdIn l = idMeant l (outlineOf l .port)
+
+-- of an LLDPDU l that was heard on port p, whoever sent it
+abbrev pub whoseIn : ℕ → List ℕ → Ident
+whoseIn p l = ident p (chassisIn l) (portIdIn l)
 
 abbrev pub whoAt : Place → Ident
-whoAt x = whose (x .port) (said (lldpduAt x))
+whoAt x = whoseIn (x .port) (lldpduAt x)
+
+-- what an LLDPDU l says that came from a sender
+abbrev pub said : List ℕ → List ℕ → Announcement
+said sender l = record { chassis = chassisIn l; portId = portIdIn l; seconds = outlineOf l .seconds; octets = l; sender = sender }
 
 -- an LLDPDU has this chassis and port ID, whatever the port
 unfoldable pub isFrom : List ℕ → Id → Id → Bool
-isFrom l c i = same (whose 0 (said l)) (ident 0 c i)
+isFrom l c i = same (whoseIn 0 l) (ident 0 c i)
+
+-- a place with n for a length that was heard on port p and keeps l has a record of w
+abbrev pub recordIs : ℕ → ℕ → List ℕ → Ident → Bool
+recordIs n p l w = both (not (eqb n 0)) (same (whoseIn p l) w)
 
 -- place k has a record of w
 unfoldable pub isOf : State → Ident → ℕ → Bool
-isOf s w k = both (used (at s k)) (same (whoAt (at s k)) w)
+isOf s w k = recordIs (at s k .len) (at s k .port) (lldpduAt (at s k)) w
 
 -- the place of w, or the number of places where it is new
 unfoldable pub find : State → Ident → ℕ
@@ -120,11 +145,17 @@ find s w = firstFrom (isOf s w) 0 places
 unfoldable pub countRecords : State → (Ident → Bool) → ℕ
 countRecords s g = count (λ k. both (used (at s k)) (g (whoAt (at s k)))) places
 
--- all numbers and all octets 0 (N6)
+-- all numbers, all senders and all octets 0 (N6)
 abbrev pub empty : State
 empty =
     record {
-      table = record { port = replicate places 0; seconds = replicate places 0; length = replicate places 0 };
+      table =
+          record {
+            port = replicate places 0;
+            seconds = replicate places 0;
+            length = replicate places 0;
+            sender = replicate places sixZeros;
+          };
       buf = replicate octets 0;
     }
 
@@ -133,4 +164,5 @@ pub record Sized (n : ℕ) (s : State) : Type 0 where
   pub ports-long : length (s .table .port) ≡ n
   pub seconds-long : length (s .table .seconds) ≡ n
   pub lengths-long : length (s .table .length) ≡ n
+  pub senders-long : length (s .table .sender) ≡ n
   pub buf-long : length (s .buf) ≡ n * size

@@ -1,12 +1,13 @@
-// One place of the table: its numbers in the struct and its 1,500 octets in the buffer (N1), and whose it is (N2).
+// One place of the table: its numbers and its sender in the struct, its 1,500 octets in the buffer (N1), and whose it is (N2).
 // Any place of any buffer can be named: past the last nothing is kept, and a buffer of another length is read as far as it goes and never written.
 ghost use mathlib.Core.Path.{_≡_};
 ghost use Rattle.ids.specs.Id.{idMeant};
-ghost use Rattle.place.specs.State.{at, putThere, free, state, lldpduAt, keep, isOf, isFrom, ident};
+ghost use Rattle.place.specs.State.{putThere, free, state, lldpduIn, keep, recordIs, isFrom, ident};
 use ids::IdPart;
 use ids::same_id;
 use lldpdu::outline_lldpdu;
 use numbers::PLACES;
+use numbers::Sender;
 use numbers::Table;
 use text::Part;
 use text::text_of;
@@ -18,9 +19,9 @@ pub const SIZE: usize = 1500;
 
 pub const OCTETS: usize = PLACES * SIZE;
 
-// The LLDPDU that place i keeps (N3).
-pub fn lldpdu_at(t: Table, buffer: &[u8], i: usize) -> &[u8]
-    ensures { λ r. ⌜ now r ≡ lldpduAt (at (state t (now (buffer .entry))) i) ⌝ }
+// The LLDPDU of so many octets that place i keeps (N3). What is asked of every place in turn takes the place's own numbers: the whole table would be copied each time.
+pub fn lldpdu_at(buffer: &[u8], i: usize, length: u16) -> &[u8]
+    ensures { λ r. ⌜ now r ≡ lldpduIn (now (buffer .entry)) i length ⌝ }
 {
     if i >= PLACES {
         return text_of(buffer, Part { start: 0, len: 0 });
@@ -35,7 +36,7 @@ pub fn lldpdu_at(t: Table, buffer: &[u8], i: usize) -> &[u8]
         ),
         Part {
             start: 0,
-            len: t.length[i] as usize,
+            len: length as usize,
         },
     )
 }
@@ -54,15 +55,25 @@ pub fn release(t: Table, buffer: &mut [u8], i: usize) -> Table
     u.port[i] = 0;
     u.seconds[i] = 0;
     u.length[i] = 0;
+    let zeros = Sender { octets: [0; 6] };
+    u.sender[i] = zeros;
     let from = i * SIZE;
     let to = from + SIZE;
     clear(&mut buffer[from..to]);
     u
 }
 
-// Place i keeps an LLDPDU that was heard on a port, with seconds left (N3, N7), where the place has room for it too.
-pub fn store(t: Table, buffer: &mut [u8], i: usize, p: u8, left: u16, l: &[u8]) -> Table
-    ensures { λ r. ⌜ state r (now (buffer .exit)) ≡ putThere (state t (now (buffer .entry))) i (keep p left (now (l .entry))) ⌝ }
+// Place i keeps an LLDPDU that was heard on a port, with seconds left and its sender (N3, N7), where the place has room for it too.
+pub fn store(
+    t: Table,
+    buffer: &mut [u8],
+    i: usize,
+    p: u8,
+    left: u16,
+    sender: [u8; 6],
+    l: &[u8],
+) -> Table
+    ensures { λ r. ⌜ state r (now (buffer .exit)) ≡ putThere (state t (now (buffer .entry))) i (keep p left sender (now (l .entry))) ⌝ }
 {
     if i >= PLACES {
         return t;
@@ -77,6 +88,8 @@ pub fn store(t: Table, buffer: &mut [u8], i: usize, p: u8, left: u16, l: &[u8]) 
     u.port[i] = p;
     u.seconds[i] = left;
     u.length[i] = l.len() as u16;
+    let sent_by = Sender { octets: sender };
+    u.sender[i] = sent_by;
     let from = i * SIZE;
     let to = from + SIZE;
     fill(&mut buffer[from..to], l);
@@ -94,26 +107,24 @@ fn is_from(l: &[u8], text: &[u8], chassis: IdPart, port: IdPart) -> bool
     false
 }
 
-// Whether place i has a record with the identity of this port and of two parts of a text (N2).
+// Whether place i, by its own length and port, has a record with the identity of port p and of two parts of a text (N2).
 pub fn is_of(
-    t: Table,
     buffer: &[u8],
     i: usize,
+    length: u16,
+    origin: u8,
     p: u8,
     text: &[u8],
     chassis: IdPart,
     port: IdPart,
 ) -> bool
-    ensures { λ r. ⌜ r ≡ isOf (state t (now (buffer .entry))) (ident p (idMeant (now (text .entry)) chassis) (idMeant (now (text .entry)) port)) i ⌝ }
+    ensures { λ r. ⌜ r ≡ recordIs length origin (lldpduIn (now (buffer .entry)) i length) (ident p (idMeant (now (text .entry)) chassis) (idMeant (now (text .entry)) port)) ⌝ }
 {
-    if i >= PLACES {
+    if length == 0 {
         return false;
     }
-    if t.length[i] == 0 {
+    if origin != p {
         return false;
     }
-    if t.port[i] != p {
-        return false;
-    }
-    is_from(lldpdu_at(t, buffer, i), text, chassis, port)
+    is_from(lldpdu_at(buffer, i, length), text, chassis, port)
 }

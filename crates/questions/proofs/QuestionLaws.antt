@@ -20,10 +20,11 @@ use Rattle.naming.specs.declared.Naming.{Naming}
 use Rattle.naming.specs.declared.Naming.the-variants as naming-is
 use Rattle.numbers.specs.Sizes.{ports, places}
 use Rattle.numbers.specs.Numbers.{holds}
-use Rattle.place.specs.State.{Place, State, at, lldpduAt}
+use Rattle.place.specs.State.{State, at, lldpduIn}
+use Rattle.place.proofs.ThereLaws.{there-lldpdu}
 use Rattle.fitness.specs.Fit.{fit}
 use Rattle.fitness.specs.Refusals.{refusalWhenUnfit, refusalOnPort}
-use Rattle.questions.specs.Sight.{refusalOfCount, heldIn, counted, Counted, refusalOfSight, sightIn, namingInPlace, onNaming, sightFrom, sight, seenFrom, Sees}
+use Rattle.questions.specs.Sight.{refusalOfCount, heldIn, counted, Counted, refusalOfSight, sightIn, namingIn, namingInPlace, onNaming, sightFrom, sight, seenFrom, Sees}
 use Rattle.questions.specs.declared.Count.{Count}
 use Rattle.questions.specs.declared.Count.the-variants as count-is
 use Rattle.questions.specs.declared.Sight.{Sight}
@@ -69,12 +70,15 @@ module _ (p : ℕ) (s : State) where
 
 -- Who sees an address: a place
 
-module _ (a : List ℕ) (x : Place) where
-  pub naming-free : x .len ≡ 0 → naming-is.Nowhere ≡ namingInPlace a x
-  naming-free e = rw (eq-eqb _ _ e)
+module _ (a : List ℕ) (n : ℕ) (l : List ℕ) where
+  pub naming-free : n ≡ 0 → naming-is.Nowhere ≡ namingIn a n l
+  naming-free e = rw (eq-eqb n 0 e)
 
-  pub naming-used : {r : Naming} {l : List ℕ} → x .len ≢ 0 → r ≡ naming.namingOf l a → l ≡ lldpduAt x → r ≡ namingInPlace a x
-  naming-used u e d = rw (ne-eqb _ _ u) (e ∙ ap (λ (l : List ℕ). naming.namingOf l a) d)
+  pub naming-used : {r : Naming} {k : List ℕ} → n ≢ 0 → r ≡ naming.namingOf k a → k ≡ l → r ≡ namingIn a n l
+  naming-used u e d = rw (ne-eqb n 0 u) (e ∙ ap (λ (k : List ℕ). naming.namingOf k a) d)
+
+pub naming-there : (s : State) (a : List ℕ) (k : ℕ) → k < places → namingIn a (at s k .len) (lldpduIn (s .buf) k (at s k .len)) ≡ namingInPlace a (at s k)
+naming-there s a k h = ap (namingIn a (at s k .len)) (there-lldpdu s k h)
 
 -- a place that does not name the address is passed over; the first two cases of an answer are those
 pub passed-over : (n : Naming) (k : ℕ) (rest : Sight) → OneOf (0 ∷ 1 ∷ []) (tagOf the-type n) → onNaming n k rest ≡ rest

@@ -2,6 +2,7 @@
 -- A sight is found by the reader in the LLDPDU that the place keeps.
 use Prim.Native.Nat.{ℕ, zero, suc, _-_}
 use mathlib.Core.Path.{_≡_}
+use mathlib.Core.Bool.{not}
 use mathlib.Core.List.{List}
 use mathlib.Core.Option.{Option, none, some}
 use lib.Dec.{ltb, eqb}
@@ -54,9 +55,12 @@ sightIn (Refused n) = none
 sightIn Nobody = none
 sightIn (At k i p) = some (k, (i, p))
 
--- what the reader finds at a place
+-- what the reader finds at a place that has n for a length and keeps l
+abbrev pub namingIn : List ℕ → ℕ → List ℕ → Naming
+namingIn a n l = pick (not (eqb n 0)) (naming.namingOf l a) naming-is.Nowhere
+
 abbrev pub namingInPlace : List ℕ → Place → Naming
-namingInPlace a x = pick (used x) (naming.namingOf (lldpduAt x) a) naming-is.Nowhere
+namingInPlace a x = namingIn a (x .len) (lldpduAt x)
 
 abbrev pub onNaming : Naming → ℕ → Sight → Sight
 onNaming (naming-is.Refused n) k rest = rest

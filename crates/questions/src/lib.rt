@@ -1,11 +1,10 @@
 // The two questions: how many a port holds (N10), and who sees an address (N11).
 // Neither writes anything; who sees asks the reader about each record as it is kept.
 ghost use mathlib.Core.Path.{_≡_};
-ghost use Prim.Native.Nat.{_<_, _-_};
-ghost use lib.ListN.{length};
+ghost use Prim.Native.Nat.{_-_};
 ghost use Rattle.numbers.specs.Sizes.{places};
-ghost use Rattle.place.specs.State.{octets, at, state};
-ghost use Rattle.questions.specs.Sight.{Counted, namingInPlace, sightFrom, Sees};
+ghost use Rattle.place.specs.State.{state, lldpduIn};
+ghost use Rattle.questions.specs.Sight.{Counted, namingIn, sightFrom, Sees};
 use fitness::NO_PORT;
 use fitness::UNFIT;
 use fitness::is_fit;
@@ -46,23 +45,22 @@ pub fn how_many(t: Table, buffer: &[u8], port: usize) -> Count
     Count::Refused(UNFIT)
 }
 
-fn naming_in_place(t: Table, buffer: &[u8], address: [u8; 6], i: usize) -> Naming
-    requires { ⌜ (i < places) × (length (now buffer) ≡ octets) ⌝ }
-    ensures { λ r. ⌜ r ≡ namingInPlace address (at (state t (now (buffer .entry))) i) ⌝ }
+// Place i by its own length.
+fn naming_in_place(buffer: &[u8], i: usize, length: u16, address: [u8; 6]) -> Naming
+    ensures { λ r. ⌜ r ≡ namingIn address length (lldpduIn (now (buffer .entry)) i length) ⌝ }
 {
-    if t.length[i] == 0 {
+    if length == 0 {
         return Naming::Nowhere;
     }
-    link_naming(lldpdu_at(t, buffer, i), address)
+    link_naming(lldpdu_at(buffer, i, length), address)
 }
 
 fn sight_from(t: Table, buffer: &[u8], address: [u8; 6], from: usize) -> Sight
-    requires { ⌜ length (now buffer) ≡ octets ⌝ }
     ensures { λ r. ⌜ r ≡ sightFrom (state t (now (buffer .entry))) address from (places - from) ⌝ }
 {
     let mut i = from;
     while i < PLACES {
-        let named = naming_in_place(t, buffer, address, i);
+        let named = naming_in_place(buffer, i, t.length[i], address);
         if let Naming::Link { interface, port } = named {
             return Sight::At {
                 place: i,

@@ -4,7 +4,7 @@ use Prim.Native.Nat.{ℕ, _≤_}
 use mathlib.Core.Path.{_≡_, refl, ap, _∙_}
 use mathlib.Core.List.{List}
 use mathlib.Core.Bool.{Bool, true, false, not}
-use borrow.Author.Tests.{leb-true}
+use borrow.Author.Tests.{leb-true, not-true}
 use lib.ListN.{length, drop}
 use Rattle.tally.specs.Tests.{pick}
 use Rattle.tally.proofs.TestsLaws.{held, all-fails}
@@ -21,7 +21,11 @@ frame-size f e =
     let h = held (frameTests f) e in
     (leb-true 14 (length f) (h .0), leb-true (length f) 1514 (h .1 .0))
 
--- no header with a group address as source is valid (F4)
+-- the source of a valid frame is no group address, and no header with one is valid (F4)
+pub frame-station : (f : List ℕ) → frameOk f ≡ true → isGroup (sourceOf f) ≡ false
+unfolding frameOk
+frame-station f e = not-true (isGroup (sourceOf f)) (held (frameTests f) e .1 .1 .1 .1 .1 .0)
+
 pub source-fails : (f : List ℕ) → isGroup (sourceOf f) ≡ true → frameOk f ≡ false
 unfolding frameOk
 source-fails f g = all-fails (frameTests f) 5 (ap not g)

@@ -28,6 +28,10 @@ destinationOk a = either (sameOctets a everyone) (sameOctets a nearest)
 abbrev pub sourceOf : List ℕ → List ℕ
 sourceOf f = sixAt f 6
 
+-- octets 14 and on: the LLDPDU, and any padding behind its End (F1)
+abbrev pub lldpduOf : List ℕ → List ℕ
+lldpduOf f = drop 14 f
+
 -- length (F1), type (F3), destination (F2) and, last, source (F4)
 abbrev pub frameTests : List ℕ → List Bool
 frameTests f =
@@ -44,11 +48,11 @@ frameOk f = all (frameTests f)
 
 -- what is answered with refusal 3, or what is answered of the LLDPDU
 unfoldable pub onFrame : {A : Type 0} → A → (List ℕ → A) → List ℕ → A
-onFrame three answer f = pick (frameOk f) (answer (drop 14 f)) three
+onFrame three answer f = pick (frameOk f) (answer (lldpduOf f)) three
 
 -- refusals row by row: 3 (R3), then the TLVs front to back (R4 to R6, R11), then the rows `rest`
 abbrev pub frameRows : List ℕ → List (Bool × ℕ) → List (Bool × ℕ)
-frameRows f rest = (not (frameOk f), 3) ∷ rowsOf (drop 14 f) rest
+frameRows f rest = (not (frameOk f), 3) ∷ rowsOf (lldpduOf f) rest
 
 unfoldable pub frameRefusal : List ℕ → ℕ
 frameRefusal f = firstDue (frameRows f [])
@@ -56,4 +60,4 @@ frameRefusal f = firstDue (frameRows f [])
 -- The contract of the reader on a frame: this answer and no other, and it means what the rules say
 pub record ReadsFrame (f : List ℕ) (r : Reading) : Type 0 where
   pub exact : r ≡ onFrame (refusedReading 3) readingOf f
-  pub means : meant (drop 14 f) r ≡ onFrame (refusedAnswer 3) answerOf f
+  pub means : meant (lldpduOf f) r ≡ onFrame (refusedAnswer 3) answerOf f

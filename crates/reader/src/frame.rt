@@ -1,7 +1,7 @@
 // A whole frame: its length, destination, type and source, then the LLDPDU behind them.
-// The parts of an answer count from the first octet of the LLDPDU, which is octet 14 of the frame.
+// The parts of an answer count from the first octet of the LLDPDU, which stands behind the header.
 ghost use mathlib.Core.Path.{_≡_};
-ghost use Rattle.reader.specs.Frame.{destinationOk, frameOk, onFrame, ReadsFrame};
+ghost use Rattle.reader.specs.Frame.{destinationOk, sourceOf, frameOk, onFrame, ReadsFrame};
 ghost use Rattle.lldpdu.specs.Outline.{refusedOutline, outlineOf};
 use lldpdu::Outline;
 use lldpdu::outline_lldpdu;
@@ -13,6 +13,9 @@ use octets::six;
 use reading::Reading;
 use reading::read_lldpdu;
 use reading::refused_reading;
+
+// The octets of destination, source and type, behind which the LLDPDU begins (F1).
+pub const HEADER: usize = 14;
 
 // The fewest and the most octets of a frame (F1), and the refusal of one that does not fit (R3).
 const SHORTEST: usize = 14;
@@ -29,6 +32,13 @@ fn destination_fits(a: [u8; 6]) -> bool
         return true;
     }
     same_six(a, [0x01, 0x80, 0xC2, 0x00, 0x00, 0x0E])
+}
+
+// Octets 6 to 11 (F1); what a shorter frame lacks reads as 0.
+pub fn source_of(f: &[u8]) -> [u8; 6]
+    ensures { λ r. ⌜ r ≡ sourceOf (now (f .entry)) ⌝ }
+{
+    six(f, 6)
 }
 
 // Refusal 3 is given exactly where this is false (F1 to F4).
@@ -50,14 +60,14 @@ fn frame_fits(f: &[u8]) -> bool
     if !destination_fits(six(f, 0)) {
         return false;
     }
-    !is_group(six(f, 6))
+    !is_group(source_of(f))
 }
 
 pub fn outline_frame(f: &[u8]) -> Outline
     ensures { λ r. ⌜ r ≡ onFrame (refusedOutline 3) outlineOf (now (f .entry)) ⌝ }
 {
     if frame_fits(f) {
-        outline_lldpdu(&f[14..])
+        outline_lldpdu(&f[HEADER..])
     } else {
         refused_outline(NO_FRAME)
     }
@@ -67,7 +77,7 @@ pub fn read_frame(f: &[u8]) -> Reading
     ensures { λ r. ⌜ ReadsFrame (now (f .entry)) r ⌝ }
 {
     if frame_fits(f) {
-        read_lldpdu(&f[14..])
+        read_lldpdu(&f[HEADER..])
     } else {
         refused_reading(NO_FRAME)
     }

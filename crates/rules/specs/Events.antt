@@ -5,12 +5,13 @@ use mathlib.Core.List.{List}
 use Rattle.ids.specs.Id.{Id}
 use Rattle.rules.specs.Identity.{Ident}
 
--- what a valid frame says, as far as a table asks: identity but for the port, seconds to live, and the octets of its LLDPDU
+-- what a valid frame says, as far as a table asks: identity but for the port, seconds to live, the octets of its LLDPDU, and its source
 pub record Announcement : Type 0 where
   pub chassis : Id
   pub portId : Id
   pub seconds : ℕ
   pub octets : List ℕ
+  pub sender : List ℕ
 
 -- what the reader says of a frame: its refusal number, or what the frame says
 pub data Heard : Type 0 where

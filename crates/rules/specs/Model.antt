@@ -19,6 +19,7 @@ pub record Rec : Type 0 where
   pub who : Ident
   pub left : ℕ
   pub octets : List ℕ
+  pub sender : List ℕ
 
 abbrev pub Places : Type 0
 Places = List (Option Rec)
@@ -63,7 +64,7 @@ eachRecord f (x ∷ t) = onRecord f x ∷ eachRecord f t
 
 -- seconds pass (N8)
 unfoldable pub tick : ℕ → Rec → Option Rec
-tick s r = pick (leb (r .left) s) none (some (record { who = r .who; left = r .left - s; octets = r .octets }))
+tick s r = pick (leb (r .left) s) none (some (record { who = r .who; left = r .left - s; octets = r .octets; sender = r .sender }))
 
 -- the link of port p is lost (N9)
 unfoldable pub unplug : ℕ → Rec → Option Rec
@@ -75,7 +76,7 @@ swap w new r = pick (same w (r .who)) new (some r)
 
 -- what is recorded of what is heard on port p
 abbrev pub recorded : ℕ → Announcement → Rec
-recorded p a = record { who = whose p a; left = a .seconds; octets = a .octets }
+recorded p a = record { who = whose p a; left = a .seconds; octets = a .octets; sender = a .sender }
 
 -- what an answer does with the record that was heard
 abbrev pub act : Reply → Rec → Places → Places

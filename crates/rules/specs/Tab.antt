@@ -1,4 +1,4 @@
--- A list of places given place by place: the form in which a table of numbers and octets is seen as the model's.
+-- A list of places given place by place: the form in which a table of numbers, senders and octets is seen as the model's.
 -- `tab m f` lists f 0 to f (m - 1).
 use Prim.Native.Nat.{ℕ, zero, suc}
 use mathlib.Core.List.{[], _∷_}

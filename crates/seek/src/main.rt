@@ -7,6 +7,7 @@ use reader::Part;
 use reader::text_of;
 use table::OCTETS;
 use table::PLACES;
+use table::Sender;
 use table::Sight;
 use table::Table;
 use table::frame_on_port;
@@ -45,6 +46,7 @@ fn filled(buffer: &mut [u8], input: &mut [u8]) -> Table {
         port: [0; PLACES],
         seconds: [0; PLACES],
         length: [0; PLACES],
+        sender: [Sender { octets: [0; 6] }; PLACES],
     };
     for place in 0..PLACES {
         t = announce(t, buffer, input, place);

@@ -13,7 +13,6 @@ use lib.ListN.{length, getD, set, take, drop, length-drop}
 use Rattle.tally.specs.Tests.{pick}
 use Rattle.tally.proofs.TestsLaws.{both-true}
 use Rattle.tally.proofs.CountsLaws.{first-passes, first-before}
-use Rattle.lldpdu.specs.Extent as lldpdu
 use Rattle.lldpdu.specs.Outline.{refusedOutline, outlineOf}
 use Rattle.walk.specs.declared.Extent.{Extent}
 use Rattle.walk.specs.declared.Extent.the-variants as extent-is
@@ -21,7 +20,7 @@ use Rattle.lldpdu.specs.declared.outline.Outline.{Outline}
 use Rattle.lldpdu.proofs.ExtentLaws.{good, not-both, outline-extent}
 use Rattle.lldpdu.proofs.Stable.{sized}
 use Rattle.reader.specs.Frame as reader
-use Rattle.reader.proofs.FrameLaws.{frame-size, on-good, on-bad}
+use Rattle.reader.proofs.FrameLaws.{frame-size, frame-station, on-good, on-bad}
 use Rattle.rules.specs.Identity.{Ident, same}
 use Rattle.rules.specs.Events.{Announcement, Heard, says, whose}
 use Rattle.rules.specs.Shares.{share, room}
@@ -40,10 +39,10 @@ use Rattle.rules.proofs.PlacesLaws.{enter-set, swap-set, lookup-at}
 use Rattle.rules.proofs.TabLaws.{in-tab}
 use Rattle.numbers.specs.Sizes.{ports, places}
 use Rattle.numbers.specs.Numbers.{isFree, holds, firstFree}
-use Rattle.place.specs.State.{Place, State, Sized, size, at, put, used, free, keep, said, whoAt, isOf, find, countRecords}
+use Rattle.place.specs.State.{Place, State, Sized, size, at, put, used, free, said, whoAt, isOf, find, countRecords}
 use Rattle.marks.specs.PlaceFit.{okPlace}
 use Rattle.fitness.specs.Fit.{fit, Fit}
-use Rattle.hearing.specs.Frame.{extentOn, heardIn, heardOf, Told, telling, stateTold, heardAt, heardByRoom, heardNew, heardSaying, onHeard, heard}
+use Rattle.hearing.specs.Frame.{extentOn, heardIn, heardOf, Told, telling, stateTold, kept, heardAt, heardByRoom, heardNew, heardSaying, onHeard, heard}
 use Rattle.fitness.specs.View.{recOf, placeOf, view}
 use Rattle.place.proofs.PutLaws.{put-sized}
 use Rattle.fitness.proofs.ViewLaws.{place-free, place-used, Seen, seen, placed, getD-view, view-long, count-view, count-holds, view-fits}
@@ -53,25 +52,23 @@ use Rattle.fitness.proofs.WrittenLaws.{Good, Spoken, keep-place, keep-good, put
 
 -- What the reader says of a frame
 
--- a valid frame has no more octets behind its first 14 than a place holds
-valid-frame : (f : List ℕ) (e : ℕ) → extentOn f ≡ extent-is.Octets e → (lldpdu.extentOf (drop 14 f) ≡ extent-is.Octets e) × (length (drop 14 f) ≤ size)
+valid-frame : (f : List ℕ) (e : ℕ) → extentOn f ≡ extent-is.Octets e → reader.frameOk f ≡ true
 valid-frame f e v = go (reader.frameOk f) refl
   where
-    go : (b : Bool) → reader.frameOk f ≡ b → (lldpdu.extentOf (drop 14 f) ≡ extent-is.Octets e) × (length (drop 14 f) ≤ size)
-    go true q = (
-      sym (outline-extent (drop 14 f)) ∙ sym (ap (λ (o : Outline). o .extent) (on-good (refusedOutline 3) outlineOf f q)) ∙ v,
-      omega (arith, length-drop 14 f, frame-size f q .1),
-    )
+    go : (b : Bool) → reader.frameOk f ≡ b → reader.frameOk f ≡ true
+    go true q = q
     go false q = not-both (sym (ap (λ (o : Outline). o .extent) (on-bad (refusedOutline 3) outlineOf f q)) ∙ v)
 
-pub spoken : (f : List ℕ) (e : ℕ) → extentOn f ≡ extent-is.Octets e → Spoken (said (take e (drop 14 f)))
-unfolding said
+-- a valid frame has no more octets behind its first 14 than a place holds, and no group address sent it
+pub spoken : (f : List ℕ) (e : ℕ) → extentOn f ≡ extent-is.Octets e → Spoken (said (reader.sourceOf f) (take e (drop 14 f)))
 spoken f e v =
-    let h = valid-frame f e v in
+    let q = valid-frame f e v in
+    let x = sym (outline-extent (drop 14 f)) ∙ sym (ap (λ (o : Outline). o .extent) (on-good (refusedOutline 3) outlineOf f q)) ∙ v in
     record {
       says = refl;
-      long = omega (arith, kept-long (drop 14 f) e (h .0), sized (good (drop 14 f) e (h .0)) .whole-inside, h .1);
-      extent = kept-extent (drop 14 f) e (h .0);
+      station = frame-station f q;
+      long = omega (arith, kept-long (drop 14 f) e x, sized (good (drop 14 f) e x) .whole-inside, length-drop 14 f, frame-size f q .1);
+      extent = kept-extent (drop 14 f) e x;
     }
 
 -- The outcome t of a call is the model's, and what lies inside its places is right
@@ -87,9 +84,6 @@ pub record Right (s : State) (p : ℕ) (x : Heard) (t : Told) : Type 0 where
 module _ (s : State) (z : Sized places s) (f : Fit s) (p : ℕ) (low : p < ports) (a : Announcement) (c : Spoken a) where
   abbrev w : Ident
   w = whose p a
-
-  abbrev kept : Place
-  kept = keep p (a .seconds) (a .octets)
 
   abbrev answers : Told → Type 0
   answers t = Right s p (says a) t
@@ -152,16 +146,16 @@ module _ (s : State) (z : Sized places s) (f : Fit s) (p : ℕ) (low : p < ports
     swapped : (x : Option Rec) → model.eachRecord (swap w x) (view s) ≡ set (view s) (find s w) x
     swapped x = ap (λ (v : Ident). model.eachRecord (swap v x) (view s)) (sym found-who) ∙ swap-set (recOf here) x (view s) (find s w) once found-at
 
-    known-right : answers (heardAt (find s w) p (a .seconds) (a .octets) s)
+    known-right : answers (heardAt (find s w) (a .seconds) (kept p a) s)
     unfolding heardAt
     known-right = go (eqb (a .seconds) 0) refl
       where
-        go : (b : Bool) → eqb (a .seconds) 0 ≡ b → answers (pick b (telling Gone (put s (find s w) free)) (telling Refreshed (put s (find s w) kept)))
+        go : (b : Bool) → eqb (a .seconds) 0 ≡ b → answers (pick b (telling Gone (put s (find s w) free)) (telling Refreshed (put s (find s w) (kept p a))))
         go true e =
             writes Gone (find s w) l free free-long free-ok (told true e true known there refl)
             (gives true e true known there refl ∙ swapped none ∙ ap (set (view s) (find s w)) (sym (place-free free refl)))
         go false e =
-            writes Refreshed (find s w) l kept (keep-long p (a .seconds) (a .octets)) (keep-good p a c low (eqb-false (a .seconds) 0 e)) (told false e true known there refl)
+            writes Refreshed (find s w) l (kept p a) (keep-long p (a .seconds) (a .sender) (a .octets)) (keep-good p a c low (eqb-false (a .seconds) 0 e)) (told false e true known there refl)
             (gives false e true known there refl ∙ swapped (some (recorded p a)) ∙ ap (set (view s) (find s w)) (sym (keep-place p a c)))
 
   -- the identity is new
@@ -198,20 +192,20 @@ module _ (s : State) (z : Sized places s) (f : Fit s) (p : ℕ) (low : p < ports
           enter-set (recorded p a) (view s) first (omega (arith, h, view-long s)) (getD-view s first h ∙ place-free (at s first) first-free)
           (λ j m. ap isSome (getD-view s j (omega (arith, m, h)) ∙ place-used (at s j) (first-least j m)))
 
-    new-right : answers (heardNew p (a .seconds) w (a .octets) s)
+    new-right : answers (heardNew (a .seconds) w (kept p a) s)
     unfolding heardNew
     new-right = zero-or (eqb (a .seconds) 0) refl
       where
-        go : eqb (a .seconds) 0 ≡ false → (rm : Room) → there ≡ rm → answers (heardByRoom rm p (a .seconds) (a .octets) s)
+        go : eqb (a .seconds) 0 ≡ false → (rm : Room) → there ≡ rm → answers (heardByRoom rm (kept p a) s)
         go e Full m = stays (Refused 7) (told false e false new Full m) (gives false e false new Full m)
         go e Taken m = stays (Refused 8) (told false e false new Taken m) (gives false e false new Taken m)
         go e Enough m =
             let h = room-for s (parts-fit s f) p low (sym room-share ∙ m) in
-            writes Recorded (firstFree (s .table)) h kept (keep-long p (a .seconds) (a .octets)) (keep-good p a c low (eqb-false (a .seconds) 0 e))
+            writes Recorded (firstFree (s .table)) h (kept p a) (keep-long p (a .seconds) (a .sender) (a .octets)) (keep-good p a c low (eqb-false (a .seconds) 0 e))
             (told false e false new Enough m)
             (gives false e false new Enough m ∙ taken h ∙ ap (set (view s) (firstFree (s .table))) (sym (keep-place p a c)))
 
-        zero-or : (b : Bool) → eqb (a .seconds) 0 ≡ b → answers (pick b (telling UnknownGoodbye s) (heardByRoom there p (a .seconds) (a .octets) s))
+        zero-or : (b : Bool) → eqb (a .seconds) 0 ≡ b → answers (pick b (telling UnknownGoodbye s) (heardByRoom there (kept p a) s))
         zero-or true e = stays UnknownGoodbye (told true e false new there refl) (gives true e false new there refl)
         zero-or false e = go e there refl
 
@@ -220,7 +214,7 @@ module _ (s : State) (z : Sized places s) (f : Fit s) (p : ℕ) (low : p < ports
   saying-right = go (ltb (find s w) places) refl
     where
       go : (b : Bool) → ltb (find s w) places ≡ b
-          → answers (pick b (heardAt (find s w) p (a .seconds) (a .octets) s) (heardNew p (a .seconds) w (a .octets) s))
+          → answers (pick b (heardAt (find s w) (a .seconds) (kept p a) s) (heardNew (a .seconds) w (kept p a) s))
       go true e = known-right (ltb-true (find s w) places e)
       go false e = new-right (ltb-false (find s w) places e)
 
@@ -241,10 +235,10 @@ module _ (s : State) (z : Sized places s) (f : Fit s) (p : ℕ) where
   no-port x h = record { answer = sym (no-reply ports (view s) p x h); seen = sym (no-frame ports (view s) p x h); sized = z; good = f .good }
 
   on-port : (frame : List ℕ) → p < ports → (x : Extent) → extentOn frame ≡ x
-      → Right s p (heardIn x (drop 14 frame)) (onHeard (heardIn x (drop 14 frame)) p s)
+      → Right s p (heardIn x (reader.sourceOf frame) (drop 14 frame)) (onHeard (heardIn x (reader.sourceOf frame) (drop 14 frame)) p s)
   on-port frame h (extent-is.Refused k) v =
       record { answer = sym (unread-reply ports (view s) p k h); seen = sym (unread-frame ports (view s) p k); sized = z; good = f .good }
-  on-port frame h (extent-is.Octets e) v = saying-right s z f p h (said (take e (drop 14 frame))) (spoken frame e v)
+  on-port frame h (extent-is.Octets e) v = saying-right s z f p h (said (reader.sourceOf frame) (take e (drop 14 frame))) (spoken frame e v)
 
   pub frame-right : (frame : List ℕ) → Right s p (heardOf frame) (heard p frame s)
   unfolding heardOf

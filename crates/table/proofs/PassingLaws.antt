@@ -1,61 +1,33 @@
 -- Seconds pass, a link is lost: a place that is fit by itself stays so, and what becomes of it is the model's (N8, N9).
 -- Both are shown of each thing that can come of a place.
-use Prim.Native.Nat.{ℕ, _-_, _≤_, _<_}
+use Prim.Native.Nat.{ℕ, _-_, _<_}
 use mathlib.Core.Path.{_≡_, refl, sym, ap, _∙_}
 use mathlib.Core.Logic.{_≢_}
-use mathlib.Core.Bool.{Bool, true, false, not}
-use mathlib.Core.List.{[], _∷_}
+use mathlib.Core.Bool.{true}
 use native.Mathlib.Omega.{arith}
-use borrow.Author.Tests.{eqb-true, eqb-false, eq-eqb, ne-eqb, leb-true, leb-false, le-leb, lt-leb}
-use lib.Dec.{ltb, leb, eqb}
-use lib.ListN.{length, take, drop}
-use Rattle.tally.specs.Tests.{pick, both}
+use borrow.Author.Tests.{eq-eqb, ne-eqb, le-leb, lt-leb}
+use lib.ListN.{length, take}
 use Rattle.tally.proofs.TestsLaws.{held}
-use Rattle.whole.specs.Whole.{zeros}
 use Rattle.rules.specs.Model as model
 use Rattle.rules.specs.Model.{tick, unplug}
-use Rattle.numbers.specs.Sizes.{ports}
 use Rattle.place.specs.State.{Place, size, free}
 use Rattle.place.proofs.PutLaws.{KeepsLong}
-use Rattle.marks.specs.PlaceFit.{whole, okUsed, okPlace}
+use Rattle.marks.specs.PlaceFit.{usedTests, okUsed, okPlace}
 use Rattle.fitness.specs.View.{placeOf}
 use Rattle.fitness.proofs.ViewLaws.{place-free, place-used}
 use Rattle.fitness.proofs.KeepLaws.{whole-parts, parts-whole, free-ok, free-long}
 use Rattle.freeing.specs.Changes.{aged, lost}
-
--- Seconds pass, a link is lost: whatever holds of each thing that can come of a place holds of what does
-
-abbrev pub less : ℕ → Place → Place
-less n x = record { port = x .port; seconds = x .seconds - n; len = x .len; body = x .body }
-
-module _ (P : Place → Type 0) (x : Place) (unused : x .len ≡ 0 → P x) where
-  pub aged-by : (n : ℕ) → (x .len ≢ 0 → x .seconds ≤ n → P free) → (x .len ≢ 0 → n < x .seconds → P (less n x)) → P (aged n x)
-  unfolding aged
-  aged-by n gone left = go (eqb (x .len) 0) refl (leb (x .seconds) n) refl
-    where
-      go : (b : Bool) → eqb (x .len) 0 ≡ b → (c : Bool) → leb (x .seconds) n ≡ c → P (pick (not b) (pick c free (less n x)) x)
-      go true d c e = unused (eqb-true (x .len) 0 d)
-      go false d true e = gone (eqb-false (x .len) 0 d) (leb-true (x .seconds) n e)
-      go false d false e = left (eqb-false (x .len) 0 d) (leb-false (x .seconds) n e)
-
-  pub lost-by : (p : ℕ) → (x .len ≢ 0 → x .port ≡ p → P free) → (x .len ≢ 0 → x .port ≢ p → P x) → P (lost p x)
-  unfolding lost
-  lost-by p gone other = go (eqb (x .len) 0) refl (eqb (x .port) p) refl
-    where
-      go : (b : Bool) → eqb (x .len) 0 ≡ b → (c : Bool) → eqb (x .port) p ≡ c → P (pick (both (not b) c) free x)
-      go true d c e = unused (eqb-true (x .len) 0 d)
-      go false d true e = gone (eqb-false (x .len) 0 d) (eqb-true (x .port) p e)
-      go false d false e = other (eqb-false (x .len) 0 d) (eqb-false (x .port) p e)
+use Rattle.freeing.proofs.ChangeLaws.{less, aged-by, lost-by}
 
 -- fewer seconds, but at least one
 less-ok : (n : ℕ) (x : Place) → okPlace x ≡ true → x .len ≢ 0 → n < x .seconds → okPlace (less n x) ≡ true
 unfolding okPlace okUsed
 less-ok n x e u h =
     let l = take (x .len) (x .body) in
-    let f = held (ltb (x .port) ports ∷ leb (x .len) size ∷ whole l (x .seconds) ∷ zeros (drop (x .len) (x .body)) ∷ []) (rw (ne-eqb (x .len) 0 u) at e) in
-    let w = whole-parts l (x .seconds) (f .1 .1 .0) in
+    let f = held (usedTests x) (rw (ne-eqb (x .len) 0 u) at e) in
+    let w = whole-parts l (x .seconds) (f .1 .1 .1 .0) in
     let v = parts-whole l (x .seconds - n) (record { extent = w .extent; least = omega arith; most = omega (arith, w .most) }) in
-    rw (ne-eqb (x .len) 0 u, f .0, f .1 .0, v, f .1 .1 .1 .0)
+    rw (ne-eqb (x .len) 0 u, f .0, f .1 .0, f .1 .1 .0, v, f .1 .1 .1 .1 .0)
 
 pub aged-ok : (n : ℕ) (x : Place) → okPlace x ≡ true → okPlace (aged n x) ≡ true
 aged-ok n x e = aged-by (λ y. okPlace y ≡ true) x (λ z. e) n (λ u h. free-ok) (less-ok n x e)

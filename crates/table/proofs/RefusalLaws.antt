@@ -19,11 +19,11 @@ use Rattle.rules.specs.declared.Room.the-variants.{Enough, Full, Taken}
 use Rattle.rules.specs.declared.Reply.{Reply}
 use Rattle.rules.specs.declared.Reply.the-variants as reply
 use Rattle.numbers.specs.Sizes.{ports, places}
-use Rattle.place.specs.State.{State, octets, put, each, free, keep, find, countRecords, empty}
+use Rattle.place.specs.State.{Place, State, octets, put, each, free, find, countRecords, empty}
 use Rattle.fitness.specs.Fit.{fit}
 use Rattle.freeing.specs.Changes.{aged, lost}
 use Rattle.freeing.specs.Calls.{After, answered, stateAfter, started, ifPort, passed, linkLost}
-use Rattle.hearing.specs.Frame.{heardOf, Told, telling, stateTold, heardAt, heardByRoom, heardNew, heardSaying, onHeard, heard}
+use Rattle.hearing.specs.Frame.{heardOf, Told, telling, stateTold, kept, heardAt, heardByRoom, heardNew, heardSaying, onHeard, heard}
 use Rattle.hearing.proofs.ReplyLaws.{unread-tells, heard-by}
 use Rattle.freeing.specs.declared.Answer.the-variants.{Done, Refused}
 
@@ -70,29 +70,29 @@ module _ (s : State) where
   either-way false t u g h = h
 
   -- a known neighbour is never refused
-  at-unchanged : (k p n : ℕ) (l : List ℕ) → Untold (heardAt k p n l s)
+  at-unchanged : (k n : ℕ) (x : Place) → Untold (heardAt k n x s)
   unfolding heardAt
-  at-unchanged k p n l = go (eqb n 0)
+  at-unchanged k n x = go (eqb n 0)
     where
-      go : (b : Bool) → Untold (pick b (telling reply.Gone (put s k free)) (telling reply.Refreshed (put s k (keep p n l))))
+      go : (b : Bool) → Untold (pick b (telling reply.Gone (put s k free)) (telling reply.Refreshed (put s k x)))
       go true j e = let z : _≡_ {A = ℕ} 0 1 = cc in absurd (omega arith)
       go false j e = let z : _≡_ {A = ℕ} 0 1 = cc in absurd (omega arith)
 
-  room-unchanged : (r : Room) (p n : ℕ) (l : List ℕ) → Untold (heardByRoom r p n l s)
-  room-unchanged Full p n l = stays (reply.Refused 7)
-  room-unchanged Taken p n l = stays (reply.Refused 8)
-  room-unchanged Enough p n l = λ j e. let z : _≡_ {A = ℕ} 0 1 = cc in absurd (omega arith)
+  room-unchanged : (r : Room) (x : Place) → Untold (heardByRoom r x s)
+  room-unchanged Full x = stays (reply.Refused 7)
+  room-unchanged Taken x = stays (reply.Refused 8)
+  room-unchanged Enough x = λ j e. let z : _≡_ {A = ℕ} 0 1 = cc in absurd (omega arith)
 
   saying-unchanged : (p : ℕ) (a : Announcement) → Untold (heardSaying p a s)
   unfolding heardSaying heardNew
   saying-unchanged p a =
       let k = find s (whose p a) in
       let r = room ports (countRecords s) (whose p a) in
-      either-way (ltb k places) (heardAt k p (a .seconds) (a .octets) s) (heardNew p (a .seconds) (whose p a) (a .octets) s)
-      (at-unchanged k p (a .seconds) (a .octets))
-      (either-way (eqb (a .seconds) 0) (telling reply.UnknownGoodbye s) (heardByRoom r p (a .seconds) (a .octets) s)
+      either-way (ltb k places) (heardAt k (a .seconds) (kept p a) s) (heardNew (a .seconds) (whose p a) (kept p a) s)
+      (at-unchanged k (a .seconds) (kept p a))
+      (either-way (eqb (a .seconds) 0) (telling reply.UnknownGoodbye s) (heardByRoom r (kept p a) s)
       (stays reply.UnknownGoodbye)
-      (room-unchanged r p (a .seconds) (a .octets)))
+      (room-unchanged r (kept p a)))
 
   on-unchanged : (x : Heard) (p : ℕ) → Untold (onHeard x p s)
   on-unchanged (unread k) p = stays (reply.Refused k)

@@ -20,7 +20,8 @@ use Rattle.rules.proofs.FrameLaws as model-laws
 use Rattle.rules.proofs.FrameLaws.{unplug-none, step-fit}
 use Rattle.rules.proofs.TabLaws.{tab-same}
 use Rattle.numbers.specs.Sizes.{ports, places}
-use Rattle.place.specs.State.{State, Sized, size, octets, at, each, free, empty}
+use Rattle.numbers.specs.declared.Sender.{Sender}
+use Rattle.place.specs.State.{State, Sized, size, octets, sixZeros, noSender, at, each, free, empty}
 use Rattle.marks.specs.PlaceFit.{okPlace}
 use Rattle.fitness.specs.Fit.{fit, Fit}
 use Rattle.freeing.specs.Changes.{aged, lost}
@@ -76,7 +77,8 @@ unfolding at
 at-empty k l =
     let z = getD-replicate {A = ℕ} places k 0 0 l in
     let b = part-zero octets (k * size) size (omega arith) in
-    λ i. record { port = z i; seconds = z i; len = z i; body = b i }
+    let s = getD-replicate {A = Sender} places k sixZeros noSender l in
+    λ i. record { port = z i; seconds = z i; len = z i; sender = s i .octets; body = b i }
 
 empty-sized : Sized places empty
 empty-sized =
@@ -84,6 +86,7 @@ empty-sized =
       ports-long = length-replicate {A = ℕ} places 0;
       seconds-long = length-replicate {A = ℕ} places 0;
       lengths-long = length-replicate {A = ℕ} places 0;
+      senders-long = length-replicate {A = Sender} places sixZeros;
       buf-long = length-replicate {A = ℕ} octets 0;
     }
 

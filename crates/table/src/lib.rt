@@ -1,4 +1,4 @@
-// The neighbour table: which device sits behind which port, kept in a lent buffer beside a struct of numbers.
+// The neighbour table: which device sits behind which port, kept in a lent buffer beside a struct of numbers and senders.
 // Every call takes any table and any buffer; a table that is not fit is refused with 1 and stays as it was.
 pub use fitness::is_fit;
 pub use freeing::Answer;
@@ -10,6 +10,7 @@ pub use hearing::Reception;
 pub use hearing::frame_on_port;
 pub use naming::Number;
 pub use numbers::PLACES;
+pub use numbers::Sender;
 pub use numbers::Table;
 pub use place::OCTETS;
 pub use questions::Count;

@@ -59,31 +59,36 @@ impl Maker {
         self.ports_of_b13(six_octets);
         self.call(Event::Seconds(20));
         for source in [NO_STATION, NEAREST, EVERYONE, STATION] {
-            // New ones. From a station: 7, 8, recorded.
-            self.frame_from(source, 0, six_octets(0, 7), 120);
-            self.frame_from(source, HALF, six_octets(HALF, 3), 120);
-            self.frame_from(source, NEXT, six_octets(NEXT, 1), 120);
-            // A known one and two goodbyes. From a station: refreshed, gone, unknown goodbye.
-            self.frame_from(source, 0, six_octets(0, 1), 120);
-            self.frame_from(source, 1, six_octets(1, 1), 0);
-            self.frame_from(source, LAST_PORT, six_octets(LAST_PORT, 1), 0);
-            // A wrong chassis, one that is cut short, seconds twice. From a station: 4, 5, 6.
-            self.frame_from(source, 0, address(&[2, 0, 0, 0, 0, 0, 1]), 120);
-            let whole = frame_of(source, six_octets(0, 1), 120);
-            self.call(Event::Frame { port: 0, frame: whole[..whole.len() - 1].to_vec() });
-            let twice = Agent::of(six_octets(0, 1)).announcement(120, &[seconds()]);
-            self.call(Event::Frame { port: 0, frame: headed(EVERYONE, source, LLDP, &twice) });
-            // 2 and 1 go before 3 (R11).
-            self.frame_from(source, PORTS, six_octets(0, 1), 120);
-            self.call(Event::Lend(BUFFER_OCTETS - 1));
-            self.frame_from(source, 0, six_octets(0, 1), 120);
-            self.call(Event::Lend(BUFFER_OCTETS));
-            self.all_held();
+            self.each_answer_to(&headed(EVERYONE, source, LLDP, &[]));
         }
     }
 
+    /// Frames with this header on the ports of B13: each answer is due, or 3 from a group address.
+    pub fn each_answer_to(&mut self, header: &[u8]) {
+        // New ones. From a station: 7, 8, recorded.
+        self.frame_behind(header, 0, six_octets(0, 7), 120);
+        self.frame_behind(header, HALF, six_octets(HALF, 3), 120);
+        self.frame_behind(header, NEXT, six_octets(NEXT, 1), 120);
+        // A known one and two goodbyes. From a station: refreshed, gone, unknown goodbye.
+        self.frame_behind(header, 0, six_octets(0, 1), 120);
+        self.frame_behind(header, 1, six_octets(1, 1), 0);
+        self.frame_behind(header, LAST_PORT, six_octets(LAST_PORT, 1), 0);
+        // A wrong chassis, one that is cut short, seconds twice. From a station: 4, 5, 6.
+        self.frame_behind(header, 0, address(&[2, 0, 0, 0, 0, 0, 1]), 120);
+        let whole = announced(six_octets(0, 1), 120);
+        self.hear_behind(header, 0, whole[..whole.len() - 1].to_vec());
+        let twice = Agent::of(six_octets(0, 1)).announcement(120, &[seconds()]);
+        self.hear_behind(header, 0, twice);
+        // 2 and 1 go before 3 (R11).
+        self.frame_behind(header, PORTS, six_octets(0, 1), 120);
+        self.call(Event::Lend(BUFFER_OCTETS - 1));
+        self.frame_behind(header, 0, six_octets(0, 1), 120);
+        self.call(Event::Lend(BUFFER_OCTETS));
+        self.all_held();
+    }
+
     /// The first half of the ports hold six each, the next port holds two.
-    fn ports_of_b13(&mut self, chassis: Numbered) {
+    pub fn ports_of_b13(&mut self, chassis: Numbered) {
         self.call(Event::Start);
         for port in 0..=HALF {
             let held = if port < HALF { MOST } else { SURE };
@@ -95,11 +100,11 @@ impl Maker {
     }
 
     fn bench_frame(&mut self, port: usize, chassis: Id, seconds: u16) {
-        self.frame_from(STATION, port, chassis, seconds);
+        self.frame_behind(&headed(EVERYONE, STATION, LLDP, &[]), port, chassis, seconds);
     }
 
-    fn frame_from(&mut self, source: Address, port: usize, chassis: Id, seconds: u16) {
-        self.call(Event::Frame { port, frame: frame_of(source, chassis, seconds) });
+    fn frame_behind(&mut self, header: &[u8], port: usize, chassis: Id, seconds: u16) {
+        self.hear_behind(header, port, announced(chassis, seconds));
     }
 
     /// What each port holds, and the refusal for the number behind the last.
@@ -110,15 +115,14 @@ impl Maker {
     }
 }
 
-/// Frame A with another chassis; with seconds 0 it has no other fields.
-fn frame_of(source: Address, chassis: Id, seconds: u16) -> Vec<u8> {
+/// The LLDPDU of frame A with another chassis; with seconds 0 it has no other fields.
+fn announced(chassis: Id, seconds: u16) -> Vec<u8> {
     let later = if seconds == 0 { vec![] } else { vec![category(), model_number()] };
-    let lldpdu = Agent::of(chassis).announcement(seconds, &later);
-    headed(EVERYONE, source, LLDP, &lldpdu)
+    Agent::of(chassis).announcement(seconds, &later)
 }
 
 /// Other octets for each neighbour; the first one of port 0 has those of frame A.
-fn six_octets(port: usize, number: usize) -> Id {
+pub fn six_octets(port: usize, number: usize) -> Id {
     address(&[2, 0, 0, 0, port as u8, number as u8])
 }
 

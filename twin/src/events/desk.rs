@@ -83,11 +83,13 @@ impl Desk {
             Event::SetPort { place, port } => self.table.port[place] = port,
             Event::SetSeconds { place, seconds } => self.table.seconds[place] = seconds,
             Event::SetLength { place, length } => self.table.length[place] = length,
+            Event::SetSender { place, sender } => self.table.sender[place] = sender,
             Event::SetOctet { at, octet } => self.store[at] = octet,
             Event::CopyPlace { from, to } => {
                 self.table.port[to] = self.table.port[from];
                 self.table.seconds[to] = self.table.seconds[from];
                 self.table.length[to] = self.table.length[from];
+                self.table.sender[to] = self.table.sender[from];
                 self.store.copy_within(octets_of(from), octets_of(to).start);
             }
             Event::Keep => self.kept = (self.table.clone(), self.store.clone()),
@@ -118,12 +120,13 @@ impl Desk {
         self.lent = BUFFER_OCTETS;
     }
 
-    /// A digest of all numbers and of all octets of the buffer given.
+    /// A digest of all numbers, of all senders and of all octets of the buffer given.
     fn digest(&self) -> u64 {
         let port = self.table.port.map(u64::from);
         let seconds = self.table.seconds.map(u64::from);
         let length = self.table.length.map(u64::from);
-        let octets = self.buffer().iter().map(|&octet| u64::from(octet));
+        let senders = self.table.sender.as_flattened();
+        let octets = senders.iter().chain(self.buffer()).map(|&octet| u64::from(octet));
         let values = port.into_iter().chain(seconds).chain(length).chain(octets);
         values.fold(0, |h, value| (h * 31 + value + 1) % DIGEST_MODULUS)
     }

@@ -19,6 +19,7 @@ impl Maker {
         self.call(Event::Start);
         self.all_places_are_taken();
         self.the_last_place_is_filled();
+        self.the_first_place_is_freed();
         self.the_last_place_is_freed();
         self.each_link_is_lost();
         self.each_port_alone();
@@ -39,7 +40,7 @@ impl Maker {
 
     /// The neighbour that takes this place where all are heard in turn, so that the last places are
     /// those of the last two ports. Only theirs see the address that is sought.
-    fn hear_neighbour(&mut self, place: usize, seconds: u16) {
+    pub fn hear_neighbour(&mut self, place: usize, seconds: u16) {
         let port = place / OF_EACH_PORT;
         let number = place as u8;
         let seen = if port + 2 < PORTS { neighbour(1) } else { SOUGHT };
@@ -91,6 +92,14 @@ impl Maker {
         self.hear(LAST_PORT, long_announcement(&agent_of(LAST_PLACE), PLACE_OCTETS));
         self.starts_around_the_end();
         self.hear_neighbour(LAST_PLACE, 600);
+    }
+
+    /// By a goodbye, and no other place is free, so that what is spoiled of a free place is spoiled
+    /// there; then it is taken again.
+    fn the_first_place_is_freed(&mut self) {
+        self.hear_neighbour(0, 0);
+        self.spoils();
+        self.hear_neighbour(0, 600);
     }
 
     /// By a goodbye; then it is taken again, and freed when its seconds have passed.

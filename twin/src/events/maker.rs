@@ -17,7 +17,7 @@ pub struct Maker {
     unseen: u16,
 }
 
-/// Who sends a frame: an identity but for the receiving port (N2).
+/// Who is announced by a frame: an identity but for the receiving port (N2).
 #[derive(Clone, Debug, PartialEq, Eq)]
 pub struct Agent {
     pub chassis: Id,
@@ -45,7 +45,7 @@ impl Maker {
         &mut self.frames.rng
     }
 
-    /// An event that is neither an edit nor a spoiled table.
+    /// An event that leaves the table fit: neither an edit that spoils it nor a spoiled table.
     pub fn call(&mut self, event: Event) {
         self.desk.act(&event);
         self.events.push(event);
@@ -53,8 +53,13 @@ impl Maker {
 
     /// A frame with a right header.
     pub fn hear(&mut self, port: usize, lldpdu: Vec<u8>) {
-        let frame = [self.frames.header(), lldpdu].concat();
-        self.call(Event::Frame { port, frame });
+        let header = self.frames.header();
+        self.hear_behind(&header, port, lldpdu);
+    }
+
+    /// A frame with this header.
+    pub fn hear_behind(&mut self, header: &[u8], port: usize, lldpdu: Vec<u8>) {
+        self.call(Event::Frame { port, frame: [header, &lldpdu].concat() });
     }
 
     /// A frame from an agent that was never heard before, of seconds that last.

@@ -8,6 +8,7 @@ use super::Event;
 use crate::frames::blocks::*;
 use crate::frames::hex;
 use crate::id::Id;
+use crate::reader::Address;
 use crate::table::{BUFFER_OCTETS, COMMON, LAST_PLACE, MOST, PLACES, PLACE_OCTETS, PORTS, SURE};
 
 const SEQUENCES: usize = 64;
@@ -166,10 +167,11 @@ impl Maker {
         }
     }
 
-    /// A frame from a known agent, one much like it, or any; sometimes with a fault, or from a
-    /// group address (F4).
+    /// A frame of a known agent, one much like it, or any; sometimes with a fault, or from a group
+    /// address (F4).
     fn random_frame(&mut self, ports: &[usize]) -> Event {
-        let (port, mut agent) = self.random_sender(ports);
+        let (port, mut agent) = self.random_identity(ports);
+        let header = self.random_header(port, &agent);
         if self.rng().once_in(25) {
             agent.chassis = self.wrong_chassis(agent.chassis);
         }
@@ -178,7 +180,7 @@ impl Maker {
         if self.rng().once_in(25) {
             later.push(self.refused_later());
         }
-        let mut frame = [self.frames.header(), agent.announcement(seconds, &later)].concat();
+        let mut frame = [header, agent.announcement(seconds, &later)].concat();
         frame.extend(self.frames.random_padding());
         if self.rng().once_in(12) {
             frame = from_a_group(frame);
@@ -187,6 +189,25 @@ impl Maker {
             frame = self.damaged(frame);
         }
         Event::Frame { port, frame }
+    }
+
+    /// A right header. A known agent has the sender of its record again, one that differs from it in
+    /// a bit, or mostly any other; now and then the source has no bit set (F4).
+    fn random_header(&mut self, port: usize, agent: &Agent) -> Vec<u8> {
+        let header = self.frames.header();
+        let known = self.desk.table.used().find(|&place| {
+            usize::from(self.desk.table.port[place]) == port && self.agent_at(place) == *agent
+        });
+        match (self.rng().below(12), known) {
+            (0, _) => sent_by(Address::default(), header),
+            (1..=3, Some(place)) => sent_by(self.desk.table.sender[place], header),
+            (4, Some(place)) => {
+                let mut source = self.desk.table.sender[place];
+                source[self.rng().below(6)] ^= 1 << self.rng().below(8);
+                from_a_station(sent_by(source, header))
+            }
+            _ => header,
+        }
     }
 
     /// A TLV that may not stand behind the third (R6).
@@ -228,7 +249,7 @@ impl Maker {
         }
     }
 
-    fn random_sender(&mut self, ports: &[usize]) -> (usize, Agent) {
+    fn random_identity(&mut self, ports: &[usize]) -> (usize, Agent) {
         let known = if self.rng().once_in(3) { None } else { self.any_used() };
         match known {
             Some(place) => {

@@ -4,8 +4,8 @@
 use super::desk::STORE_OCTETS;
 use super::maker::{Agent, Maker};
 use super::{Event, Trial};
-use crate::frames::blocks::{from_a_group, leading_of, pool};
-use crate::reader::outline_lldpdu;
+use crate::frames::blocks::{from_a_group, leading_of, pool, stations, GROUPS};
+use crate::reader::{outline_lldpdu, Address};
 use crate::table::{
     buffer_octets, octets_of, BUFFER_OCTETS, COMMON, LAST_PORT, MOST, PLACE_OCTETS, PORTS, SURE,
 };
@@ -20,8 +20,10 @@ pub enum Way {
     EmptyBuffer,
     FreePort,
     FreeSeconds,
+    FreeSender,
     FreeOctet,
     PortBehindTheLast,
+    GroupSender,
     LengthAbove1500,
     AnotherLength,
     InvalidLldpdu,
@@ -38,14 +40,16 @@ impl Way {
     /// Every way, the condition of N5 that it breaks, and how many tables are spoiled so after a
     /// sequence. The last two ways need a port with six, or the common places taken, which not all
     /// sequences end with.
-    pub const ALL: [(Way, char, usize); 17] = [
+    pub const ALL: [(Way, char, usize); 19] = [
         (Way::ShorterBuffer, 'a', 5),
         (Way::LongerBuffer, 'a', 5),
         (Way::EmptyBuffer, 'a', 5),
         (Way::FreePort, 'b', 5),
         (Way::FreeSeconds, 'b', 5),
+        (Way::FreeSender, 'b', 5),
         (Way::FreeOctet, 'b', 5),
         (Way::PortBehindTheLast, 'c', 5),
+        (Way::GroupSender, 'c', 5),
         (Way::LengthAbove1500, 'c', 5),
         (Way::AnotherLength, 'c', 5),
         (Way::InvalidLldpdu, 'c', 5),
@@ -137,8 +141,10 @@ impl Maker {
                 let seconds = self.rng().pick(&[1, 120, 65_535, some]);
                 Some(vec![Event::SetSeconds { place, seconds }])
             }
+            Way::FreeSender => self.free_sender(),
             Way::FreeOctet => self.free_octet(),
             Way::PortBehindTheLast => self.port_behind_the_last(),
+            Way::GroupSender => self.group_sender(),
             Way::LengthAbove1500 => self.length_above_1500(),
             Way::AnotherLength => self.another_length(),
             Way::InvalidLldpdu => self.invalid_lldpdu(),
@@ -203,15 +209,30 @@ impl Maker {
         vec![self.octet_becomes(at), lend]
     }
 
-    /// An octet of a free place, or a place whose numbers alone become free.
+    /// The sender of a free place: mostly one octet of the six alone is not 0; or several are, of a
+    /// group address or another.
+    fn free_sender(&mut self) -> Option<Vec<Event>> {
+        let place = self.any_free()?;
+        let some = self.rng().between(1, 255) as u8;
+        let mut sender = Address::default();
+        sender[self.rng().below(6)] = self.rng().pick(&[1, 2, 0x80, 0xFF, some]);
+        let other = self.rng().pick(&[stations(), GROUPS.to_vec()].concat());
+        Some(vec![Event::SetSender { place, sender: self.rng().pick(&[sender, sender, other]) }])
+    }
+
+    /// An octet of a free place, or a place whose numbers alone become free, with its sender or not.
     fn free_octet(&mut self) -> Option<Vec<Event>> {
         if self.rng().once_in(4) {
             let place = self.any_used()?;
-            return Some(vec![
+            let mut edits = vec![
                 Event::SetPort { place, port: 0 },
                 Event::SetSeconds { place, seconds: 0 },
                 Event::SetLength { place, length: 0 },
-            ]);
+            ];
+            if self.rng().once_in(2) {
+                edits.push(Event::SetSender { place, sender: Address::default() });
+            }
+            return Some(edits);
         }
         let place = self.any_free()?;
         let some = self.rng().below(PLACE_OCTETS);
@@ -228,6 +249,16 @@ impl Maker {
         let far = [low | 128, 255, some];
         let port = self.rng().pick(&[near, far].concat()) as u8;
         Some(vec![Event::SetPort { place, port }])
+    }
+
+    /// The sender that is there with the lowest bit of its first octet set, or another group address
+    /// (F4).
+    fn group_sender(&mut self) -> Option<Vec<Event>> {
+        let place = self.any_used()?;
+        let mut bit_alone = self.desk.table.sender[place];
+        bit_alone[0] |= 0x01;
+        let other = self.rng().pick(&GROUPS);
+        Some(vec![Event::SetSender { place, sender: self.rng().pick(&[bit_alone, other]) }])
     }
 
     /// A length that the place has no room for. Where an LLDPDU fills its place, it may even look

@@ -19,6 +19,9 @@ pub const SOUGHT: Address = [0x02, 0x00, 0x00, 0x00, 0x10, 0x51];
 /// A group address: no station owns it, and so it is no source (F4).
 pub const NO_STATION: Address = [0x03, 0x00, 0x00, 0x00, 0x00, 0x01];
 
+/// That one and other group addresses, of which one has no other bit.
+pub const GROUPS: [Address; 4] = [NO_STATION, [0x01, 0, 0, 0, 0, 0], NEAREST, EVERYONE];
+
 pub const TTC: [u8; 3] = [0xE0, 0x27, 0x1A];
 
 /// The octets that a TTC field has room for behind its subtype, since L is at most 511 (L1).
@@ -274,8 +277,24 @@ pub fn crowd(count: usize) -> Vec<Address> {
     addresses
 }
 
+/// Addresses that may be a source: the lowest bit of the first octet alone decides (F4).
+pub fn stations() -> Vec<Address> {
+    // Every bit but that one, the lowest bits of the other octets, and no bit.
+    let mut stations = vec![[0xFE, 0xFF, 0xFF, 0xFF, 0xFF, 0xFF], [2, 1, 1, 1, 1, 1], [0; 6]];
+    // Each other bit of the first octet, and each other lowest bit, by itself.
+    stations.extend((1..8).map(|bit| [1 << bit, 0, 0, 0, 0, 0]));
+    stations.extend((1..6).map(|octet| std::array::from_fn(|i| u8::from(i == octet))));
+    stations
+}
+
 pub fn headed(destination: Address, source: Address, kind: [u8; 2], lldpdu: &[u8]) -> Vec<u8> {
     [&destination, &source, &kind as &[u8], lldpdu].concat()
+}
+
+/// The frame with another source (F1).
+pub fn sent_by(source: Address, mut frame: Vec<u8>) -> Vec<u8> {
+    frame[SOURCE..][..source.len()].copy_from_slice(&source);
+    frame
 }
 
 /// The frame with its source made a group address (F4).

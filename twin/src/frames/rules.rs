@@ -126,10 +126,10 @@ impl Maker {
         }
     }
 
-    /// Sources of frames that have no other fault: the lowest bit of the first octet decides (F4).
+    /// Sources of frames that have no other fault (F4).
     fn sources(&mut self) {
         for destination in [EVERYONE, NEAREST] {
-            for source in [NO_STATION, [0x01, 0, 0, 0, 0, 0], NEAREST, EVERYONE] {
+            for source in GROUPS {
                 self.raw(headed(destination, source, LLDP, &typical()));
             }
         }
@@ -137,12 +137,7 @@ impl Maker {
         for length in [group.len() + 9, 1514] {
             self.raw(padded(&group, length));
         }
-        // Every bit but that one, the lowest bits of the other octets, and no bit.
-        let mut stations = vec![[0xFE, 0xFF, 0xFF, 0xFF, 0xFF, 0xFF], [2, 1, 1, 1, 1, 1], [0; 6]];
-        // Each other bit of the first octet, and each other lowest bit, by itself.
-        stations.extend((1..8).map(|bit| [1 << bit, 0, 0, 0, 0, 0]));
-        stations.extend((1..6).map(|octet| std::array::from_fn(|i| u8::from(i == octet))));
-        for (destination, source) in [EVERYONE, NEAREST].into_iter().cycle().zip(stations) {
+        for (destination, source) in [EVERYONE, NEAREST].into_iter().cycle().zip(stations()) {
             self.raw(headed(destination, source, LLDP, &typical()));
         }
     }

@@ -10,7 +10,7 @@ use Rattle.hearing.proofs.hear.Statement.{statement}
 use Rattle.hearing.proofs.hear.Tie as tie
 
 place-of-requires : tie.Need-place-of-requires
-place-of-requires c κs = fit-length _ (c .before .before .before .pre .0)
+place-of-requires c κs = search needs
 
 hear-known-requires : tie.Need-hear-known-requires
 hear-known-requires c κs =
@@ -26,7 +26,7 @@ returns c =
     let o = n .before .before .before .before in
     let a = o .args in
     c .before .before .hear-known .ensures
-    ∙ saying-known (a .p) (a .l .now) (state (a .t) (a .buffer .now)) (o .pre .1 .1 .1) (n .place-of .ensures) (omega (arith, c .before .before .before .before .if1 .taken))
+    ∙ saying-known (a .p) (a .sender) (a .l .now) (state (a .t) (a .buffer .now)) (o .pre .1 .1 .1) (n .place-of .ensures) (omega (arith, c .before .before .before .before .if1 .taken))
 
 hear-new-requires : tie.Need-hear-new-requires
 hear-new-requires c κs = search needs
@@ -40,7 +40,7 @@ returns-2 c =
     let o = n .before .before .before .before in
     let a = o .args in
     c .before .before .hear-new .ensures
-    ∙ saying-new (a .p) (a .l .now) (state (a .t) (a .buffer .now)) (o .pre .1 .1 .1) (n .place-of .ensures) (c .before .before .before .before .if1 .left)
+    ∙ saying-new (a .p) (a .sender) (a .l .now) (state (a .t) (a .buffer .now)) (o .pre .1 .1 .1) (n .place-of .ensures) (c .before .before .before .before .if1 .left)
 
 pub hear-spec : {M : Type 1} → statement M
 hear-spec =

@@ -1,5 +1,5 @@
 -- `hearing::hear_frame` meets its contract: the reader's refusal, or what the LLDPDU says (unread-tells, saying-tells).
--- The LLDPDU is cut out up to its End, so it has room in a place and says what the frame says.
+-- The LLDPDU is cut out up to its End, so it has room in a place and says what the frame says; the source is its sender.
 use mathlib.Core.Path.{_≡_, refl, _∙_}
 use borrow.Author.Needs.{needs}
 use lib.ListN.{take, drop}
@@ -27,13 +27,17 @@ text-of-requires c κs = search needs
 cut : (c : tie.After-text-of) → c .text-of .result .now ≡ take (c .before .before .extent2 .given .0 .0) (drop 14 (c .before .before .before .before .before .before .before .args .frame .now))
 cut c = c .text-of .ensures
 
+source-of-requires : tie.Need-source-of-requires
+source-of-requires c κs = search needs
+
 hear-requires : tie.Need-hear-requires
 hear-requires c κs =
-    let x = c .before .before .before in
+    let behind = c .before .before in
+    let x = behind .before .before in
     let r = x .before .before in
     let o = r .before .before .before in
     let f = o .args .frame .now in
-    let t = cut (c .before) in
+    let t = cut behind in
     (o .pre .0, (o .pre .1, (frame-short f (r .outline-frame .ensures) (x .extent2 .given .1) t, same-outline f (r .outline-frame .ensures) (x .extent2 .given .1) t)))
 
 returns : tie.Need-returns
@@ -49,10 +53,12 @@ same-length c = search needs
 returns-2 : tie.Need-returns-2
 returns-2 c =
     let h = c .before .before in
-    let x = h .before .before .before .before in
+    let behind = h .before .before .before in
+    let x = behind .before .before in
     let r = x .before .before in
     let a = r .before .before .before .args in
-    h .hear .ensures ∙ saying-tells (a .frame .now) (r .outline-frame .ensures) (x .extent2 .given .1) (cut (h .before .before)) (a .p) (state (a .t) (a .buffer .now))
+    h .hear .ensures
+    ∙ saying-tells (a .frame .now) (r .outline-frame .ensures) (x .extent2 .given .1) (cut behind) (a .p) (state (a .t) (a .buffer .now)) (h .before .source-of .ensures)
 
 pub hear-frame-spec : {M : Type 1} → statement M
 hear-frame-spec =
@@ -63,6 +69,7 @@ hear-frame-spec =
     reply-with-requires
     enum-known-extent-2
     text-of-requires
+    source-of-requires
     hear-requires
     returns
     same-length

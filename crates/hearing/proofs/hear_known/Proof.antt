@@ -26,7 +26,7 @@ returns c =
     let s = state (a .t) (a .buffer .now) in
     let freed : _ ≡ putThere s (a .k) free = c .before .before .before .release .ensures in
     let k = freed ∙ there-put s (a .k) free (o .pre .0) (o .pre .1 .0) (omega arith) in
-    tells {a = Gone} (c .reply-with .ensures) k ∙ at-gone (a .k) (a .p) (a .seconds) (a .l .now) s (c .before .before .before .before .before .if1 .taken)
+    tells {a = Gone} (c .reply-with .ensures) k ∙ at-gone (a .k) (a .seconds) (keep (a .p) (a .seconds) (a .sender) (a .l .now)) s (c .before .before .before .before .before .if1 .taken)
 
 store-requires : tie.Need-store-requires
 store-requires c κs = search needs
@@ -43,9 +43,10 @@ returns-2 c =
     let o = c .before .before .before .before .before .before .before .before in
     let a = o .args in
     let s = state (a .t) (a .buffer .now) in
-    let kept : _ ≡ putThere s (a .k) (keep (a .p) (a .seconds) (a .l .now)) = c .before .before .before .store .ensures in
-    let k = kept ∙ there-put s (a .k) (keep (a .p) (a .seconds) (a .l .now)) (o .pre .0) (o .pre .1 .0) (o .pre .1 .1) in
-    tells {a = Refreshed} (c .reply-with2 .ensures) k ∙ at-kept (a .k) (a .p) (a .seconds) (a .l .now) s (c .before .before .before .before .before .if1 .left)
+    let x = keep (a .p) (a .seconds) (a .sender) (a .l .now) in
+    let kept : _ ≡ putThere s (a .k) x = c .before .before .before .store .ensures in
+    let k = kept ∙ there-put s (a .k) x (o .pre .0) (o .pre .1 .0) (o .pre .1 .1) in
+    tells {a = Refreshed} (c .reply-with2 .ensures) k ∙ at-kept (a .k) (a .seconds) x s (c .before .before .before .before .before .if1 .left)
 
 pub hear-known-spec : {M : Type 1} → statement M
 hear-known-spec =

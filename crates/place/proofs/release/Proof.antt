@@ -1,4 +1,4 @@
--- `place::release` meets its contract: the numbers of the place are 0, and its octets come back as zeros (part-becomes).
+-- `place::release` meets its contract: the numbers of the place and its sender are 0, and its octets come back as zeros (part-becomes).
 -- All else stays as it was, and all of it where there is no such place or the buffer has another length.
 use Prim.Native.Nat.{ℕ, _*_}
 use mathlib.Core.Path.{sym, ap, _∙_}
@@ -31,6 +31,12 @@ mul-u-2 c = search needs
 
 element-write-u-3 : tie.Need-element-write-u-3
 element-write-u-3 c = search needs
+
+mul-zeros : tie.Need-mul-zeros
+mul-zeros c = search needs
+
+element-set-from-zeros : tie.Need-element-set-from-zeros
+element-set-from-zeros c = search needs
 
 mul-from : tie.Need-mul-from
 mul-from c = search needs
@@ -73,6 +79,8 @@ release-spec =
     element-write-u-2
     mul-u-2
     element-write-u-3
+    mul-zeros
+    element-set-from-zeros
     mul-from
     add-to
     sub-clear

@@ -1,4 +1,4 @@
--- `place::store` meets its contract: the numbers of the place are those of the record, and its octets come back filled (part-becomes).
+-- `place::store` meets its contract: the numbers and the sender of the place are those of the record, and its octets come back filled (part-becomes).
 -- All else stays as it was, and all of it where there is no such place, the buffer has another length or the place has no room.
 use Prim.Native.Nat.{_*_}
 use mathlib.Core.Path.{sym, ap, _∙_}
@@ -14,19 +14,19 @@ use Rattle.place.proofs.store.Tie as tie
 returns : tie.Need-returns
 returns c =
     let a = c .before .before .before .args in
-    past-stays (state (a .t) (a .buffer .now)) (a .i) (keep (a .p) (a .left) (a .l .now)) (c .if1 .taken)
+    past-stays (state (a .t) (a .buffer .now)) (a .i) (keep (a .p) (a .left) (a .sender) (a .l .now)) (c .if1 .taken)
 
 returns-2 : tie.Need-returns-2
 returns-2 c =
     let a = c .before .before .before .before .args in
-    unsized-stays (state (a .t) (a .buffer .now)) (a .i) (keep (a .p) (a .left) (a .l .now)) (c .before .if1 .left) (c .if2 .taken)
+    unsized-stays (state (a .t) (a .buffer .now)) (a .i) (keep (a .p) (a .left) (a .sender) (a .l .now)) (c .before .if1 .left) (c .if2 .taken)
 
 returns-3 : tie.Need-returns-3
 unfolding keep
 returns-3 c =
     let two = c .before in
     let a = two .before .before .before .before .args in
-    full-stays (state (a .t) (a .buffer .now)) (a .i) (keep (a .p) (a .left) (a .l .now)) (two .before .if1 .left) (two .if2 .left) (search needs)
+    full-stays (state (a .t) (a .buffer .now)) (a .i) (keep (a .p) (a .left) (a .sender) (a .l .now)) (two .before .if1 .left) (two .if2 .left) (search needs)
 
 element-write-u : tie.Need-element-write-u
 element-write-u c = search needs
@@ -45,6 +45,12 @@ mul-u-2 c = search needs
 
 element-write-u-3 : tie.Need-element-write-u-3
 element-write-u-3 c = search needs
+
+mul-sent-by : tie.Need-mul-sent-by
+mul-sent-by c = search needs
+
+element-set-from-sent-by : tie.Need-element-set-from-sent-by
+element-set-from-sent-by c = search needs
 
 mul-from : tie.Need-mul-from
 mul-from c = search needs
@@ -75,7 +81,7 @@ returns-4 c =
     let a = two .before .before .before .before .args in
     let d = c .before .before .fill in
     ap (state _) (part-becomes (a .buffer .now) (a .i * size) size (filled (a .l .now)) (d .last .0) (omega arith) (d .ensures))
-    ∙ sym (there-put (state (a .t) (a .buffer .now)) (a .i) (keep (a .p) (a .left) (a .l .now)) (two .before .if1 .left) (two .if2 .left) (three .if3 .left))
+    ∙ sym (there-put (state (a .t) (a .buffer .now)) (a .i) (keep (a .p) (a .left) (a .sender) (a .l .now)) (two .before .if1 .left) (two .if2 .left) (three .if3 .left))
 
 pub store-spec : {M : Type 1} → statement M
 store-spec =
@@ -90,6 +96,8 @@ store-spec =
     cast-u
     mul-u-2
     element-write-u-3
+    mul-sent-by
+    element-set-from-sent-by
     mul-from
     add-to
     sub-fill

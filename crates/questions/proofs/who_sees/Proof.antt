@@ -3,7 +3,6 @@
 use mathlib.Core.Path.{sym, _∙_}
 use borrow.Author.Needs.{needs}
 use Rattle.place.specs.State.{state}
-use Rattle.fitness.proofs.FitLaws.{fit-length}
 use Rattle.questions.proofs.QuestionLaws.{sees-exactly, sight-unfit, sight-fit}
 use Rattle.questions.proofs.who_sees.Statement.{statement}
 use Rattle.questions.proofs.who_sees.Tie as tie
@@ -12,7 +11,7 @@ is-fit-requires : tie.Need-is-fit-requires
 is-fit-requires c κs = search needs
 
 sight-from-requires : tie.Need-sight-from-requires
-sight-from-requires c κs = fit-length _ (sym (c .before .is-fit .ensures) ∙ c .if1 .taken)
+sight-from-requires c κs = search needs
 
 returns : tie.Need-returns
 returns c =

@@ -8,27 +8,15 @@ use denote.Ref.{now}
 use borrow.Author.Needs.{needs}
 use Rattle.tally.proofs.RangesLaws.{all-none}
 use Rattle.place.specs.State.{at, state}
-use Rattle.fitness.proofs.TwinLaws.{mark-differs, Alone, single-free, single-twin, single-end, alone-more}
+use Rattle.fitness.proofs.TwinLaws.{mark-differs, Alone, single-twin, single-end, alone-more}
 use Rattle.fitness.proofs.single.is_single.Statement.{statement}
 use Rattle.fitness.proofs.single.is_single.Tie as tie
 
 abbrev Inv-loop : tie.InvT-loop
-Inv-loop buffer i t marks mark j₀ j = (j ≤ i) × Alone (state t buffer) i j
+Inv-loop t buffer i marks mark j₀ j = (j ≤ i) × Alone (state t buffer) i j
 
 abbrev μ-loop : tie.MeasureT-loop
-μ-loop buffer i t marks mark j₀ j = i - j
-
-mul-if1 : tie.Need-mul-if1 Inv-loop μ-loop
-mul-if1 c = search needs
-
-element-copy-out-if1 : tie.Need-element-copy-out-if1 Inv-loop μ-loop
-element-copy-out-if1 c = search needs
-
-returns : tie.Need-returns Inv-loop μ-loop
-unfolding at
-returns c =
-    let a = c .before .before .before .args in
-    single-free (state (a .t1) (now (a .buffer))) (a .i) (c .if1 .taken)
+μ-loop t buffer i marks mark j₀ j = i - j
 
 mul-mark : tie.Need-mul-mark Inv-loop μ-loop
 mul-mark c = search needs
@@ -39,23 +27,23 @@ array-read-mark c = search needs
 loop-holds : tie.Need-loop-holds Inv-loop μ-loop
 loop-holds c = (search needs, all-none _)
 
-mul-if2 : tie.Need-mul-if2 Inv-loop μ-loop
-mul-if2 c = search needs
+mul-if1 : tie.Need-mul-if1 Inv-loop μ-loop
+mul-if1 c = search needs
 
-array-read-if2 : tie.Need-array-read-if2 Inv-loop μ-loop
-array-read-if2 c = search needs
+array-read-if1 : tie.Need-array-read-if1 Inv-loop μ-loop
+array-read-if1 c = search needs
 
 is-twin-requires : tie.Need-is-twin-requires Inv-loop μ-loop
 is-twin-requires c κs = search needs
 
-returns-2 : tie.Need-returns-2 Inv-loop μ-loop
+returns : tie.Need-returns Inv-loop μ-loop
 unfolding at
-returns-2 c =
+returns c =
     let twin = c .before in
     let l = twin .before .before .before in
-    let used = l .before in
-    let a = used .before .before .before .args in
-    single-twin (state (a .t1) (now (a .buffer))) (a .i) (used .if1 .left) (l .loop .j) (search needs) (sym (twin .is-twin .ensures) ∙ c .if3 .taken)
+    let begin = l .before .before in
+    let a = begin .args in
+    single-twin (state (a .t) (now (a .buffer))) (a .i) (begin .pre .1 .1 .1) (l .loop .j) (search needs) (sym (twin .is-twin .ensures) ∙ c .if2 .taken)
 
 add-j : tie.Need-add-j Inv-loop μ-loop
 add-j c = search needs
@@ -67,24 +55,24 @@ loop-again : tie.Need-loop-again Inv-loop μ-loop
 unfolding at
 loop-again c =
     let l = c .before .before in
-    let used = l .before in
-    let begin = used .before .before .before in
+    let begin = l .before .before in
     let a = begin .args in
-    let s = state (a .t1) (now (a .buffer)) in (
+    let s = state (a .t) (now (a .buffer)) in
+    let marked = begin .pre .1 .1 in (
       search needs,
       ⊎-elim
           (λ w. alone-more s (a .i) (l .loop .j) (l .loop .inv .1) (sym (w .1 .ensures) ∙ w .2 .left))
-          (λ w. alone-more s (a .i) (l .loop .j) (l .loop .inv .1) (mark-differs s (a .t3) (begin .pre .1 .1) (a .i) (l .loop .j) (search needs) (search needs) (used .if1 .left) (w .left)))
-          (c .if2 .came),
+          (λ w. alone-more s (a .i) (l .loop .j) (l .loop .inv .1) (mark-differs s (a .t3) (marked .0) (a .i) (l .loop .j) (search needs) (search needs) (marked .1) (w .left)))
+          (c .if1 .came),
     )
 
-returns-3 : tie.Need-returns-3 Inv-loop μ-loop
+returns-2 : tie.Need-returns-2 Inv-loop μ-loop
 unfolding at
-returns-3 c =
+returns-2 c =
     let l = c .before in
-    let used = l .before in
-    let a = used .before .before .before .args in
-    single-end (state (a .t1) (now (a .buffer))) (a .i) (used .if1 .left) (l .loop .j) (omega arith) (l .loop .inv .1)
+    let begin = l .before .before in
+    let a = begin .args in
+    single-end (state (a .t) (now (a .buffer))) (a .i) (begin .pre .1 .1 .1) (l .loop .j) (omega arith) (l .loop .inv .1)
 
 pub is-single-spec : {M : Type 1} → statement M
 is-single-spec =
@@ -92,17 +80,14 @@ is-single-spec =
     (tie.spec
     Inv-loop
     μ-loop
-    mul-if1
-    element-copy-out-if1
-    returns
     mul-mark
     array-read-mark
     loop-holds
-    mul-if2
-    array-read-if2
+    mul-if1
+    array-read-if1
     is-twin-requires
-    returns-2
+    returns
     add-j
     loop-less
     loop-again
-    returns-3)
+    returns-2)

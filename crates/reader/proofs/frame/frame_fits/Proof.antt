@@ -8,7 +8,7 @@ use borrow.Author.Needs.{needs}
 use lib.ListN.{getD}
 use Rattle.tally.proofs.TestsLaws.{both-end, all-fails}
 use Rattle.octets.specs.Address.{sixAt, isGroup}
-use Rattle.reader.specs.Frame.{destinationOk, frameTests, frameOk}
+use Rattle.reader.specs.Frame.{destinationOk, sourceOf, frameTests, frameOk}
 use Rattle.reader.proofs.frame.frame_fits.Statement.{statement}
 use Rattle.reader.proofs.frame.frame_fits.Tie as tie
 
@@ -55,8 +55,8 @@ returns-5 c =
     let destination : c .before .before .six .result ≡ sixAt f 0 = c .before .before .six .ensures in
     sym (all-fails (frameTests f) 4 (ap destinationOk (sym destination) ∙ sym (c .before .destination-fits .ensures) ∙ not-true _ (c .if5 .taken)))
 
-six-requires-2 : tie.Need-six-requires-2
-six-requires-2 c κs = search needs
+source-of-requires : tie.Need-source-of-requires
+source-of-requires c κs = search needs
 
 is-group-requires : tie.Need-is-group-requires
 is-group-requires c κs = search needs
@@ -71,8 +71,8 @@ returns-6 c =
     let else2 = else3 .before .before in
     let f = now (else2 .before .before .before .args .f) in
     let destination : else5 .before .before .six .result ≡ sixAt f 0 = else5 .before .before .six .ensures in
-    let source : c .before .six2 .result ≡ sixAt f 6 = c .before .six2 .ensures in
-    let asked : c .is-group .result ≡ isGroup (c .before .six2 .result) = c .is-group .ensures in
+    let source : c .before .source-of .result ≡ sourceOf f = c .before .source-of .ensures in
+    let asked : c .is-group .result ≡ isGroup (c .before .source-of .result) = c .is-group .ensures in
     rw (
       le-leb 14 _ (else2 .before .if1 .left),
       le-leb _ 1514 (else2 .if2 .left),
@@ -95,6 +95,6 @@ frame-fits-spec =
     six-requires
     destination-fits-requires
     returns-5
-    six-requires-2
+    source-of-requires
     is-group-requires
     returns-6)
