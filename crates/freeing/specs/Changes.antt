@@ -9,7 +9,7 @@ use Rattle.freeing.specs.declared.change.Change.the-variants.{Age, Lose}
 use Rattle.freeing.specs.declared.change.Fate.{Fate}
 use Rattle.freeing.specs.declared.change.Fate.the-variants.{Goes, Stays}
 
--- what becomes of a place that has n for a length, p for a port and so many seconds left
+-- what becomes of a place that has n for a length, p for a port and so many seconds left: seconds pass (N8), a link is lost (N9)
 abbrev pub fateOf : Change → ℕ → ℕ → ℕ → Fate
 fateOf (Age s) n p left = pick (eqb n 0) (Stays left) (pick (leb left s) Goes (Stays (left - s)))
 fateOf (Lose q) n p left = pick (eqb n 0) (Stays left) (pick (eqb p q) Goes (Stays left))

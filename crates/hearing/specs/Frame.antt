@@ -56,7 +56,7 @@ telling a s = told (reception (s .table) a) (s .buf)
 abbrev pub stateTold : Told → State
 stateTold t = record { table = t .outcome .table; buf = t .buf }
 
--- what a place is to keep of an announcement that was heard on port p
+-- what a place is to keep of an announcement that was heard on port p (N3)
 abbrev pub kept : ℕ → Announcement → Place
 kept p a = keep p (a .seconds) (a .sender) (a .octets)
 

@@ -133,6 +133,10 @@ pub second-sender : run bench-ports two-sources
 unfolding afterFrame reply swap room share beyond sum same sameId sameOctets
 second-sender = refl
 
+pub third-gone : present bench-ports (frame 0 (says (agentFrom 3 1 0)) ∷ two-sources) (whose 0 (agent 1 120)) ≡ false
+unfolding present latest hearing answerBy countBy room share beyond sum same sameId sameOctets
+third-gone = refl
+
 pub third-frees : run bench-ports (frame 0 (says (agentFrom 3 1 0)) ∷ two-sources) ≡ run bench-ports []
 unfolding afterFrame reply swap room share beyond sum same sameId sameOctets
 third-frees = refl

@@ -6,7 +6,7 @@ use mathlib.Core.Bool.{Bool, true, not}
 use mathlib.Core.List.{List, [], _∷_}
 use lib.ListN.{length, getD}
 use lib.Dec.{ltb, eqb}
-use Rattle.tally.specs.Tests.{pick, either, all}
+use Rattle.tally.specs.Tests.{pick, all}
 use Rattle.tally.specs.Ranges.{allBelow}
 use Rattle.octets.specs.Numbers.{pairOf}
 use Rattle.whole.specs.Whole.{zeros}
@@ -49,9 +49,13 @@ pub record Marked (s : State) (marks : List ℕ) : Type 0 where
   pub long : length marks ≡ places
   pub right : (k : ℕ) → k < places → getD marks k 0 ≡ markAt (at s k)
 
+-- place j has the mark of place i
+abbrev pub alike : List ℕ → ℕ → ℕ → Bool
+alike marks i j = eqb (getD marks j 0) (getD marks i 0)
+
 -- place i, of which n octets are kept, is free, or no place below it has its mark
 unfoldable pub apart : List ℕ → ℕ → ℕ → Bool
-apart marks i n = either (eqb n 0) (allBelow (λ j. not (eqb (getD marks j 0) (getD marks i 0))) i)
+apart marks i n = pick (eqb n 0) true (allBelow (λ j. not (alike marks i j)) i)
 
 -- what the pass over all places gives
 pub record Checks (s : State) (m : Marks) : Type 0 where

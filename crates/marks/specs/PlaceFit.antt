@@ -19,7 +19,7 @@ abbrev pub exactly : Extent → ℕ → Bool
 exactly (Refused k) n = false
 exactly (Octets e) n = eqb e n
 
--- N5 (b)
+-- N5 (b), of port, seconds left, sender and octets
 abbrev pub freeTests : ℕ → ℕ → List ℕ → List ℕ → List Bool
 freeTests p left sender b = eqb p 0 ∷ eqb left 0 ∷ sameOctets sender (sixZeros .octets) ∷ zeros b ∷ []
 
@@ -30,6 +30,7 @@ okFree x = all (freeTests (x .port) (x .seconds) (x .sender) (x .body))
 unfoldable pub whole : List ℕ → ℕ → Bool
 whole l left = all (exactly (outlineOf l .extent) (length l) ∷ leb 1 left ∷ leb left (outlineOf l .seconds) ∷ [])
 
+-- N5 (c): port, sender (F4), length, LLDPDU with its seconds, zeros behind it
 abbrev pub usedTests : Place → List Bool
 usedTests x =
     ltb (x .port) ports

@@ -95,7 +95,7 @@ free = record { port = 0; seconds = 0; len = 0; sender = sixZeros .octets; body 
 abbrev pub lldpduAt : Place → List ℕ
 lldpduAt x = take (x .len) (x .body)
 
--- n octets of place k; past the last place there are none
+-- n octets of place k (N3); past the last place there are none
 unfoldable pub lldpduIn : List ℕ → ℕ → ℕ → List ℕ
 lldpduIn b k n = pick (ltb k places) (take n (take size (drop (k * size) b))) []
 

@@ -5,7 +5,7 @@ use mathlib.Core.List.{List}
 use Rattle.ids.specs.Id.{Id}
 use Rattle.rules.specs.Identity.{Ident}
 
--- what a valid frame says, as far as a table asks: identity but for the port, seconds to live, the octets of its LLDPDU, and its source
+-- what a valid frame says, as far as a table asks: identity but for the port, seconds to live, the octets of its LLDPDU, and its source (N3)
 pub record Announcement : Type 0 where
   pub chassis : Id
   pub portId : Id

@@ -4,19 +4,23 @@ use Prim.Native.Nat.{_-_, _≤_}
 use native.Mathlib.Omega.{arith}
 use denote.Ref.{now}
 use borrow.Author.Needs.{needs}
+use borrow.Author.Tests.{eq-eqb, ne-eqb}
+use lib.ListN.{getD}
 use Rattle.tally.proofs.RangesLaws.{all-none}
-use Rattle.fitness.proofs.TwinLaws.{Unlike, apart-free, apart-like, apart-end, unlike-more}
+use Rattle.marks.specs.Marks.{alike, apart}
+use Rattle.fitness.proofs.TwinLaws.{Clear, clear-free, clear-hit, clear-end, clear-more}
 use Rattle.fitness.proofs.single.is_apart.Statement.{statement}
 use Rattle.fitness.proofs.single.is_apart.Tie as tie
 
 abbrev Inv-loop : tie.InvT-loop
-Inv-loop marks i kept own j₀ j = (j ≤ i) × Unlike marks i kept j
+Inv-loop marks i kept own j₀ j = (j ≤ i) × Clear (alike marks i) i kept j
 
 abbrev μ-loop : tie.MeasureT-loop
 μ-loop marks i kept own j₀ j = i - j
 
 returns : tie.Need-returns Inv-loop μ-loop
-returns c = let a = c .before .args in apart-free (now (a .marks)) (a .i) (a .kept) (c .if1 .taken)
+unfolding apart
+returns c = let a = c .before .args in clear-free (alike (now (a .marks)) (a .i)) (a .i) (a .kept) (c .if1 .taken)
 
 mul-own : tie.Need-mul-own Inv-loop μ-loop
 mul-own c = search needs
@@ -34,11 +38,13 @@ shared-slice-read-if2 : tie.Need-shared-slice-read-if2 Inv-loop μ-loop
 shared-slice-read-if2 c = search needs
 
 returns-2 : tie.Need-returns-2 Inv-loop μ-loop
+unfolding apart
 returns-2 c =
     let l = c .before .before .before in
     let used = l .before .before in
     let a = used .before .args in
-    apart-like (now (a .marks)) (a .i) (a .kept) (used .if1 .left) (l .loop .j) (search needs) (c .if2 .taken)
+    let m = now (a .marks) in
+    clear-hit (alike m (a .i)) (a .i) (a .kept) (used .if1 .left) (l .loop .j) (search needs) (eq-eqb (getD m (l .loop .j) 0) (getD m (a .i) 0) (c .if2 .taken))
 
 add-j : tie.Need-add-j Inv-loop μ-loop
 add-j c = search needs
@@ -50,14 +56,16 @@ loop-again : tie.Need-loop-again Inv-loop μ-loop
 loop-again c =
     let l = c .before .before .before in
     let a = l .before .before .before .args in
-    (search needs, unlike-more (now (a .marks)) (a .i) (a .kept) (l .loop .j) (l .loop .inv .1) (c .if2 .left))
+    let m = now (a .marks) in
+    (search needs, clear-more (alike m (a .i)) (a .i) (a .kept) (l .loop .j) (l .loop .inv .1) (ne-eqb (getD m (l .loop .j) 0) (getD m (a .i) 0) (c .if2 .left)))
 
 returns-3 : tie.Need-returns-3 Inv-loop μ-loop
+unfolding apart
 returns-3 c =
     let l = c .before in
     let used = l .before .before in
     let a = used .before .args in
-    apart-end (now (a .marks)) (a .i) (a .kept) (used .if1 .left) (l .loop .j) (omega arith) (l .loop .inv .1)
+    clear-end (alike (now (a .marks)) (a .i)) (a .i) (a .kept) (used .if1 .left) (l .loop .j) (omega arith) (l .loop .inv .1)
 
 pub is-apart-spec : {M : Type 1} → statement M
 is-apart-spec =

@@ -7,13 +7,15 @@ use native.Mathlib.Omega.{arith}
 use denote.Ref.{now}
 use borrow.Author.Needs.{needs}
 use Rattle.tally.proofs.RangesLaws.{all-none}
-use Rattle.place.specs.State.{at, state}
-use Rattle.fitness.proofs.TwinLaws.{mark-differs, Alone, single-twin, single-end, alone-more}
+use lib.ListN.{getD}
+use Rattle.place.specs.State.{at, state, whoAt, isOf}
+use Rattle.fitness.specs.Fit.{single}
+use Rattle.fitness.proofs.TwinLaws.{mark-differs, Clear, clear-hit, clear-end, clear-more}
 use Rattle.fitness.proofs.single.is_single.Statement.{statement}
 use Rattle.fitness.proofs.single.is_single.Tie as tie
 
 abbrev Inv-loop : tie.InvT-loop
-Inv-loop t buffer i marks mark j₀ j = (j ≤ i) × Alone (state t buffer) i j
+Inv-loop t buffer i marks mark j₀ j = (j ≤ i) × Clear (isOf (state t buffer) (whoAt (at (state t buffer) i))) i (getD (t .length) i 0) j
 
 abbrev μ-loop : tie.MeasureT-loop
 μ-loop t buffer i marks mark j₀ j = i - j
@@ -37,13 +39,14 @@ is-twin-requires : tie.Need-is-twin-requires Inv-loop μ-loop
 is-twin-requires c κs = search needs
 
 returns : tie.Need-returns Inv-loop μ-loop
-unfolding at
+unfolding at single
 returns c =
     let twin = c .before in
     let l = twin .before .before .before in
     let begin = l .before .before in
     let a = begin .args in
-    single-twin (state (a .t) (now (a .buffer))) (a .i) (begin .pre .1 .1 .1) (l .loop .j) (search needs) (sym (twin .is-twin .ensures) ∙ c .if2 .taken)
+    let s = state (a .t) (now (a .buffer)) in
+    clear-hit (isOf s (whoAt (at s (a .i)))) (a .i) (at s (a .i) .len) (begin .pre .1 .1 .1) (l .loop .j) (search needs) (sym (twin .is-twin .ensures) ∙ c .if2 .taken)
 
 add-j : tie.Need-add-j Inv-loop μ-loop
 add-j c = search needs
@@ -58,21 +61,23 @@ loop-again c =
     let begin = l .before .before in
     let a = begin .args in
     let s = state (a .t) (now (a .buffer)) in
-    let marked = begin .pre .1 .1 in (
+    let marked = begin .pre .1 .1 in
+    let more = clear-more (isOf s (whoAt (at s (a .i)))) (a .i) (at s (a .i) .len) (l .loop .j) in (
       search needs,
       ⊎-elim
-          (λ w. alone-more s (a .i) (l .loop .j) (l .loop .inv .1) (sym (w .1 .ensures) ∙ w .2 .left))
-          (λ w. alone-more s (a .i) (l .loop .j) (l .loop .inv .1) (mark-differs s (a .t3) (marked .0) (a .i) (l .loop .j) (search needs) (search needs) (marked .1) (w .left)))
+          (λ w. more (l .loop .inv .1) (sym (w .1 .ensures) ∙ w .2 .left))
+          (λ w. more (l .loop .inv .1) (mark-differs s (a .t3) (marked .0) (a .i) (l .loop .j) (search needs) (search needs) (marked .1) (w .left)))
           (c .if1 .came),
     )
 
 returns-2 : tie.Need-returns-2 Inv-loop μ-loop
-unfolding at
+unfolding at single
 returns-2 c =
     let l = c .before in
     let begin = l .before .before in
     let a = begin .args in
-    single-end (state (a .t) (now (a .buffer))) (a .i) (begin .pre .1 .1 .1) (l .loop .j) (omega arith) (l .loop .inv .1)
+    let s = state (a .t) (now (a .buffer)) in
+    clear-end (isOf s (whoAt (at s (a .i)))) (a .i) (at s (a .i) .len) (begin .pre .1 .1 .1) (l .loop .j) (omega arith) (l .loop .inv .1)
 
 pub is-single-spec : {M : Type 1} → statement M
 is-single-spec =
