@@ -3,13 +3,15 @@
 //! compared.
 
 use crate::reader::Address;
-use crate::table::{Table, BUFFER_OCTETS, OF_EACH_PORT, PLACES};
+use crate::table::{Table, BUFFER_OCTETS, MOST_OF_A_CHASSIS, OF_EACH_PORT, PLACES};
 
 /// Octets past these are not read: the hundreds, the address and the longest frame (F1).
 const SEEK_OCTETS: usize = 1 + 6 + 1514;
 
-/// Where the frame begins, and where its port ID has its octet if it starts as frame A does.
+/// Where the frame begins, and where its chassis has its last octet and its port ID its octet if it
+/// starts as frame A does.
 const FRAME: usize = 7;
+const CHASSIS: usize = 29;
 const PORT_ID: usize = 33;
 
 /// Octets past these are not read: the thousands, the address and sixteen of the longest
@@ -53,13 +55,17 @@ fn address_at(input: &[u8], at: usize) -> Address {
 }
 
 /// The table after the frame was heard from a neighbour for each place, equally many on each port,
-/// whose port IDs differ. A frame that is refused leaves it as it was (R12).
+/// whose port IDs differ. The last on each port is of a second chassis, since one may hold three
+/// there (N13). A frame that is refused leaves it as it was (R12).
 fn filled(input: &mut [u8]) -> (Table, Vec<u8>) {
     let mut table = Table::default();
     let mut buffer = vec![0; BUFFER_OCTETS];
     for place in 0..PLACES {
-        if let Some(id) = input.get_mut(PORT_ID) {
-            *id = (place % OF_EACH_PORT) as u8;
+        let number = place % OF_EACH_PORT;
+        for (at, value) in [(CHASSIS, 1 + number / MOST_OF_A_CHASSIS), (PORT_ID, number)] {
+            if let Some(octet) = input.get_mut(at) {
+                *octet = value as u8;
+            }
         }
         let frame = input.get(FRAME..).unwrap_or_default();
         let _ = table.frame_on_port(&mut buffer, place / OF_EACH_PORT, frame);
@@ -96,7 +102,7 @@ mod tests {
     use crate::frames::blocks::{
         headed, leading, link, link_claiming, lldpdu, neighbour, Tlv, EVERYONE, LLDP, SOUGHT,
     };
-    use crate::table::{LAST_PLACE, PORTS};
+    use crate::table::{octets_of, LAST_PLACE, PORTS};
 
     /// Seek's input: the hundreds, an address, and a frame that names the one that is sought.
     fn seek_input(hundreds: u8, address: Address) -> Vec<u8> {
@@ -124,6 +130,11 @@ mod tests {
         let (table, buffer) = filled(&mut seek_input(0, SOUGHT));
         assert!((0..PORTS).all(|port| table.how_many(&buffer, port) == Ok(OF_EACH_PORT)));
         assert_eq!(table.used().count(), PLACES);
+        // The last octet of the chassis, and the octet of the port ID (L3, L4).
+        let ids = |place: usize| [8, 12].map(|at| buffer[octets_of(place)][at]);
+        for place in (0..PLACES).step_by(OF_EACH_PORT) {
+            assert_eq!([0, 1, 2, 3].map(|i| ids(place + i)), [[1, 0], [1, 1], [1, 2], [2, 3]]);
+        }
     }
 
     #[test]

@@ -1,7 +1,7 @@
 //! The events: the run cases, frames from group addresses, neighbours much like each other, the last
-//! ports and places, senders, random sequences of calls on the table, spoiled tables, and records
-//! with extension link information. The case file and the text that is expected for it are made
-//! here.
+//! ports and places, senders, loud chassis, random sequences of calls on the table, spoiled tables,
+//! and records with extension link information. The case file and the text that is expected for it
+//! are made here.
 //!
 //! A spoiled table is made in this way. Events have led to a table that is fit, and it is kept.
 //! Edits follow: a number or the sender of a place or an octet becomes another one, a place is
@@ -14,6 +14,7 @@ mod chassis;
 mod desk;
 mod extension;
 mod last;
+mod loud;
 mod maker;
 mod random;
 mod sender;
@@ -66,6 +67,7 @@ pub fn events() -> Vec<Event> {
     maker.chassis();
     maker.last_ports_and_places();
     maker.senders();
+    maker.loud_chassis();
     maker.sequences();
     maker.extensions();
     maker.events
@@ -122,6 +124,7 @@ pub(crate) mod tests {
     use super::*;
     use crate::frames::blocks::{from_a_group, from_a_station, stations, HEADER};
     use crate::id::Id;
+    use crate::reader::outline_frame;
     use crate::table::{
         buffer_octets, octets_of, places, Table, BUFFER_OCTETS, COMMON, LAST_PLACE, MOST, PLACES,
         PLACE_OCTETS, PORTS,
@@ -177,19 +180,44 @@ pub(crate) mod tests {
         for whole in ["holds 0", "holds 1", "holds 2", "holds 3", "holds 4", "holds 5", "holds 6"] {
             counts.push((whole, count(&|answer| answer == whole)));
         }
-        for number in ["1", "2", "3", "4", "5", "6", "7", "8"] {
+        for number in ["1", "2", "3", "4", "5", "6", "7", "8", "13"] {
             counts.push((number, count(&|answer| answer == format!("refused {number}"))));
         }
         println!("{counts:?}");
         assert!(counts.iter().all(|&(_, count)| count >= 20));
     }
 
-    /// A call, the table before it, how many octets its buffer had, and its answer.
+    /// A call, the table before it, how many octets its buffer had, where the chassis of its frame
+    /// stood on its port, and its answer.
     struct Call {
         event: &'static Event,
         before: Table,
         octets: usize,
+        of_chassis: Vec<usize>,
         answer: String,
+    }
+
+    /// The places of a chassis on a port.
+    fn places_of(desk: &Desk, port: usize, chassis: &Id) -> Vec<usize> {
+        let is_of_it = |place: &usize| {
+            let outline = desk.table.outline(desk.buffer(), *place);
+            usize::from(desk.table.port[*place]) == port
+                && outline.is_some_and(|outline| outline.chassis == *chassis)
+        };
+        desk.table.used().filter(is_of_it).collect()
+    }
+
+    /// Those of the chassis of a frame; none where there is no valid frame or no table for it.
+    fn places_of_chassis(desk: &Desk, event: &Event) -> Vec<usize> {
+        let Event::Frame { port, frame } = event else {
+            return vec![];
+        };
+        match outline_frame(frame) {
+            Ok(outline) if desk.buffer().len() == BUFFER_OCTETS => {
+                places_of(desk, *port, &outline.chassis)
+            }
+            _ => vec![],
+        }
     }
 
     /// All calls but those on spoiled tables.
@@ -197,11 +225,14 @@ pub(crate) mod tests {
         let mut desk = Desk::new();
         let mut calls = Vec::new();
         for event in &stored().0 {
-            let (before, octets) = (desk.table.clone(), desk.buffer().len());
             if let Event::Spoiled(_) = event {
                 desk.take_back();
-            } else if let Some(answer) = desk.act(event) {
-                calls.push(Call { event, before, octets, answer });
+                continue;
+            }
+            let (before, octets) = (desk.table.clone(), desk.buffer().len());
+            let of_chassis = places_of_chassis(&desk, event);
+            if let Some(answer) = desk.act(event) {
+                calls.push(Call { event, before, octets, of_chassis, answer });
             }
         }
         calls
@@ -227,10 +258,10 @@ pub(crate) mod tests {
     fn no_port_is_missing() {
         let calls = calls();
         let [frames, lost, how_many] = on_ports(&calls);
-        let replies =
-            ["recorded", "refreshed", "gone", "unknown goodbye", "refused 7", "refused 8"];
+        let accepted = ["recorded", "refreshed", "gone", "unknown goodbye"];
+        let refused = ["refused 7", "refused 8", "refused 13"];
         for port in 0..PORTS {
-            for reply in replies {
+            for reply in accepted.iter().chain(&refused).copied() {
                 let replied = |&(p, _, answer): &(usize, usize, &str)| p == port && answer == reply;
                 assert!(frames.iter().any(replied), "{reply} on port {port}");
             }
@@ -252,6 +283,51 @@ pub(crate) mod tests {
             let greater = |port: usize| port > 1 << 32 && port % 256 < PORTS;
             assert!(kind.iter().any(|&(port, _, answer)| greater(port) && answer == "refused 2"));
         }
+    }
+
+    /// A new one of a chassis that holds three on the port gets 13, whatever the port holds and
+    /// whether common places are left or not (R11); of one that holds fewer each other answer. Known
+    /// ones and goodbyes are not refused for it (N13).
+    #[test]
+    fn no_loud_chassis_is_rare() {
+        let calls = calls();
+        let frames = calls.iter().filter_map(|call| match call.event {
+            Event::Frame { port, .. } => Some((*port, call)),
+            _ => None,
+        });
+        let frames: Vec<_> = frames.collect();
+        let mut counts = Vec::new();
+        let mut count = |what: String, is_one: &dyn Fn(usize, &Call) -> bool| {
+            counts.push((what, frames.iter().filter(|(port, call)| is_one(*port, call)).count()));
+        };
+        for held in 3..=MOST {
+            for taken in [false, true] {
+                count(
+                    format!("13 with {held} held, common places taken: {taken}"),
+                    &|port, call| {
+                        let table = &call.before;
+                        call.answer == "refused 13"
+                            && (table.held(port), table.common_taken() == COMMON) == (held, taken)
+                    },
+                );
+            }
+        }
+        for place in [0, LAST_PLACE] {
+            count(format!("13 with place {place} among the three"), &|_, call| {
+                call.answer == "refused 13" && call.of_chassis.contains(&place)
+            });
+        }
+        let fewer = ["recorded", "refused 7", "refused 8"].map(|answer| (answer, 0..3));
+        let three = ["refreshed", "gone", "unknown goodbye"].map(|answer| (answer, 3..4));
+        for (answer, numbers) in fewer.into_iter().chain(three) {
+            for number in numbers {
+                count(format!("{answer} with {number} of the chassis"), &|_, call| {
+                    call.answer == answer && call.of_chassis.len() == number
+                });
+            }
+        }
+        println!("{counts:?}");
+        assert!(counts.iter().all(|&(_, count)| count > 0));
     }
 
     /// Each place is used at some time, and often all of them are at once.
@@ -346,7 +422,7 @@ pub(crate) mod tests {
         }
         let mut answers =
             ["recorded", "refreshed", "gone", "unknown goodbye"].map(String::from).to_vec();
-        answers.extend([1, 2, 4, 5, 6, 7, 8].map(|number| format!("refused {number}")));
+        answers.extend([1, 2, 4, 5, 6, 7, 8, 13].map(|number| format!("refused {number}")));
         let count = |answer: &String| kept_away.iter().filter(|other| *other == answer).count();
         let counts: Vec<_> = answers.iter().map(|answer| (answer, count(answer))).collect();
         println!("{counts:?}");
@@ -454,7 +530,7 @@ pub(crate) mod tests {
     /// last one; in the ways of free places (N5 b) while they are free.
     #[test]
     fn neither_end_is_spared() {
-        let of_a_place = |way: Way| "bcd".contains(way.letter());
+        let of_a_place = |way: Way| "bcdg".contains(way.letter());
         let mut counts = Way::ALL.map(|(way, ..)| (way, 0, 0, 0));
         at_each_trial(|desk, trial| {
             if of_a_place(trial.way) {
@@ -575,6 +651,53 @@ pub(crate) mod tests {
         });
         println!("six octets, eight octets, local: {counts:?}");
         assert!(counts.iter().all(|&count| count >= 20));
+    }
+
+    /// Four, five and six of a chassis stand on one port, on each port at some time: in a row and far
+    /// apart, and with the first place and the last one among theirs (N5).
+    #[test]
+    fn no_loud_table_is_rare() {
+        let mut counts = [0; 3];
+        let mut ports = [0; PORTS];
+        let [mut in_a_row, mut far_apart, mut first, mut last] = [0; 4];
+        at_each_trial(|desk, trial| {
+            if trial.way == Way::LoudChassis {
+                let places = loud_places(desk);
+                counts[places.len() - 4] += 1;
+                ports[usize::from(desk.table.port[places[0]])] += 1;
+                in_a_row += usize::from(places.windows(2).all(|two| two[0] + 1 == two[1]));
+                far_apart += usize::from(places.windows(2).all(|two| two[0] + 1 < two[1]));
+                first += usize::from(places.contains(&0));
+                last += usize::from(places.contains(&LAST_PLACE));
+            }
+        });
+        println!("four, five, six: {counts:?}; ports {ports:?}");
+        println!("in a row {in_a_row}, far apart {far_apart}, first {first}, last {last}");
+        let places = [in_a_row, far_apart, first, last];
+        assert!(counts.iter().chain(&ports).chain(&places).all(|&count| count >= 5));
+    }
+
+    /// The places of the chassis that holds more than three on a port.
+    fn loud_places(desk: &Desk) -> Vec<usize> {
+        let beside = |place: usize| {
+            let outline = desk.table.outline(desk.buffer(), place).expect("the place is sound");
+            places_of(desk, usize::from(desk.table.port[place]), &outline.chassis)
+        };
+        let loud = desk.table.used().map(beside).find(|places| places.len() > 3);
+        loud.expect("a chassis is too loud")
+    }
+
+    /// 1 goes before 13 (R11): the frame would get it if nothing were spoiled.
+    #[test]
+    fn loud_frames_are_tried_on_spoiled_tables() {
+        let mut thirteen = Way::ALL.map(|(way, ..)| (way, 0));
+        at_each_trial(|desk, trial| {
+            let call = Event::Frame { port: trial.number, frame: trial.frame.clone() };
+            let answer = taken_back(desk).act(&call);
+            thirteen[trial.way as usize].1 += usize::from(answer.as_deref() == Some("refused 13"));
+        });
+        println!("{thirteen:?}");
+        assert!(thirteen.iter().all(|&(_, count)| count >= 3));
     }
 
     /// All but Start refuse a spoiled table; Start refuses where the length of the buffer is wrong.

@@ -53,8 +53,8 @@ mod tests {
             (frames.1.len(), 1_990_000),
             (announcements.0.len(), 1_190_000),
             (announcements.1.len(), 1_990_000),
-            (events::case_file(events).len(), 1_290_000),
-            (text_of_events.len(), 890_000),
+            (events::case_file(events).len(), 1_430_000),
+            (text_of_events.len(), 960_000),
         ];
         println!("octets of cases and of text, and the most there may be: {sizes:?}");
         assert!(sizes.iter().all(|(octets, most)| octets <= most));

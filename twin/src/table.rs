@@ -27,6 +27,9 @@ pub const MOST: usize = 6;
 pub const SURE: usize = 2;
 pub const COMMON: usize = common(PORTS);
 
+/// What one chassis can hold at most on a port (N13).
+pub const MOST_OF_A_CHASSIS: usize = 3;
+
 /// The sender of a free place (N4); a used place may have it too (N5).
 const ZEROS: Address = [0; 6];
 
@@ -34,6 +37,7 @@ const UNFIT: Refusal = 1;
 const NO_SUCH_PORT: Refusal = 2;
 const PORT_HOLDS_SIX: Refusal = 7;
 const COMMON_TAKEN: Refusal = 8;
+const CHASSIS_HOLDS_THREE: Refusal = 13;
 
 /// The places of a cell with so many ports (N1).
 pub const fn places(ports: usize) -> usize {
@@ -108,13 +112,14 @@ impl Identity {
 type Condition = (char, fn(&Table, &[u8]) -> bool);
 
 /// The first one is judged first: the others rely on the length of the buffer.
-const CONDITIONS: [Condition; 6] = [
+const CONDITIONS: [Condition; 7] = [
     ('a', |_, buffer| buffer.len() == BUFFER_OCTETS),
     ('b', Table::free_places_are_clear),
     ('c', Table::used_places_are_sound),
     ('d', Table::no_identity_twice),
     ('e', |table, _| (0..PORTS).all(|port| table.held(port) <= MOST)),
     ('f', |table, _| table.common_taken() <= COMMON),
+    ('g', Table::no_chassis_is_too_loud),
 ];
 
 impl Table {
@@ -154,7 +159,7 @@ impl Table {
                 Ok(Reply::Refreshed)
             }
             (seconds, None) => {
-                let place = self.place_for_a_new_one(port)?;
+                let place = self.place_for_a_new_one(buffer, port, &outline.chassis)?;
                 self.put(buffer, place, port as u8, seconds, source, lldpdu);
                 Ok(Reply::Recorded)
             }
@@ -223,6 +228,11 @@ impl Table {
         self.used().filter(|&place| usize::from(self.port[place]) == port).count()
     }
 
+    /// How many records a chassis holds on a port (N13).
+    pub fn held_by(&self, buffer: &[u8], port: usize, chassis: &Id) -> usize {
+        held_among(&self.identities(buffer), port, chassis)
+    }
+
     /// The sum over the ports of what each holds beyond its sure places (N5, N12).
     pub fn common_taken(&self) -> usize {
         (0..PORTS).map(|port| self.held(port).saturating_sub(SURE)).sum()
@@ -271,10 +281,20 @@ impl Table {
     }
 
     fn no_identity_twice(&self, buffer: &[u8]) -> bool {
-        let identities: Vec<Identity> =
-            self.used().filter_map(|place| self.identity(buffer, place)).collect();
+        let identities = self.identities(buffer);
         let twice = |(i, identity)| identities[..i].contains(identity);
         !identities.iter().enumerate().any(twice)
+    }
+
+    fn no_chassis_is_too_loud(&self, buffer: &[u8]) -> bool {
+        let identities = self.identities(buffer);
+        identities.iter().all(|Identity { receiving_port, chassis, .. }| {
+            held_among(&identities, usize::from(*receiving_port), chassis) <= MOST_OF_A_CHASSIS
+        })
+    }
+
+    fn identities(&self, buffer: &[u8]) -> Vec<Identity> {
+        self.used().filter_map(|place| self.identity(buffer, place)).collect()
     }
 
     fn identity(&self, buffer: &[u8], place: usize) -> Option<Identity> {
@@ -286,9 +306,18 @@ impl Table {
         buffer[octets_of(place)].get(..usize::from(self.length[place]))
     }
 
-    /// The lowest free place, or 7, or 8 (N4, N12). A fit table has a free place where neither is
-    /// due: its 4n places are two sure ones for each of n ports and 2n common ones.
-    fn place_for_a_new_one(&self, port: usize) -> Result<usize, Refusal> {
+    /// The lowest free place, or 13, or 7, or 8, in the order of R11 (N4, N12, N13). A fit table has a
+    /// free place where none is due: its 4n places are two sure ones for each of n ports and 2n common
+    /// ones.
+    fn place_for_a_new_one(
+        &self,
+        buffer: &[u8],
+        port: usize,
+        chassis: &Id,
+    ) -> Result<usize, Refusal> {
+        if self.held_by(buffer, port, chassis) >= MOST_OF_A_CHASSIS {
+            return Err(CHASSIS_HOLDS_THREE);
+        }
         let held = self.held(port);
         if held >= MOST {
             return Err(PORT_HOLDS_SIX);
@@ -322,6 +351,14 @@ impl Table {
     fn clear(&mut self, buffer: &mut [u8], place: usize) {
         self.put(buffer, place, 0, 0, ZEROS, &[]);
     }
+}
+
+/// How many of these records a chassis holds on a port, whatever their port IDs are (N13).
+fn held_among(records: &[Identity], port: usize, chassis: &Id) -> usize {
+    let is_of_it = |record: &&Identity| {
+        usize::from(record.receiving_port) == port && record.chassis == *chassis
+    };
+    records.iter().filter(is_of_it).count()
 }
 
 fn judge_port(port: usize) -> Result<(), Refusal> {

@@ -3,6 +3,7 @@
 //! but for the sizes that follow from the number of ports; one test holds those to the page.
 
 mod page;
+mod watch;
 
 use page::*;
 use twin::id::Id;
@@ -11,135 +12,34 @@ use twin::table::{
     buffer_octets, common, places, Reply, Sighting, Table, BUFFER_OCTETS, LAST_PLACE, LAST_PORT,
     PLACES, PORTS,
 };
+use watch::*;
 
 use Reply::{Gone, Recorded, Refreshed, UnknownGoodbye};
-
-/// With six on each of so many ports all common places are taken; the number of ports is even.
-const HALF: usize = PORTS / 2;
-
-/// The source of frame A, and two others that may be one. The second differs from it in the last
-/// octet alone, the third has every bit that a source may have (F4).
-const STATION: [u8; 6] = [0x02, 0x00, 0x00, 0x00, 0x00, 0x01];
-const SECOND: [u8; 6] = [0x02, 0x00, 0x00, 0x00, 0x00, 0x02];
-const THIRD: [u8; 6] = [0xFE, 0xFF, 0xFF, 0xFF, 0xFF, 0xFF];
-const ZEROS: [u8; 6] = [0x00; 6];
 
 /// The other destination than that of frame A (F2).
 const NEAREST: [u8; 6] = [0x01, 0x80, 0xC2, 0x00, 0x00, 0x0E];
 
-/// Places of octets in A: the last of the chassis, the subtype and the octet of the port ID, and
-/// the two of the seconds.
-const CHASSIS: usize = 8;
-const SUBTYPE: usize = 11;
-const PORT_ID: usize = 12;
+/// Where the high octet of the seconds stands in A.
 const SECONDS: usize = 15;
-const SECONDS_LOW: usize = 16;
-
-/// Octets of A with some of them changed, behind the header.
-fn frame(changes: &[(usize, u8)]) -> Vec<u8> {
-    [&HEADER[..], &lldpdu(changes)].concat()
-}
-
-fn lldpdu(changes: &[(usize, u8)]) -> Vec<u8> {
-    let mut octets = A.to_vec();
-    for &(at, octet) in changes {
-        octets[at] = octet;
-    }
-    octets
-}
-
-/// Frame A from the neighbour of that number.
-fn neighbour(number: u8) -> Vec<u8> {
-    frame(&[(CHASSIS, number)])
-}
 
 /// The number of a port's neighbour: 10 x port + 1 and so on.
 fn numbered(port: usize, number: u8) -> u8 {
     10 * port as u8 + number
 }
 
-/// Seconds 0 and nothing else: A without its device information.
-fn goodbye(number: u8) -> Vec<u8> {
-    let whole = lldpdu(&[(CHASSIS, number), (SECONDS_LOW, 0)]);
-    [&HEADER[..], &whole[..17], &[0x00, 0x00]].concat()
-}
-
-/// A with another chassis, and with seconds up to 255.
-fn announced(chassis: &Id, seconds: u8) -> Vec<u8> {
-    let first = first_tlv(chassis.subtype, &chassis.octets);
-    [&first, &A[9..SECONDS_LOW], &[seconds], &A[17..]].concat()
-}
-
-/// The frame with another source (F1).
-fn sent_by(source: [u8; 6], mut frame: Vec<u8>) -> Vec<u8> {
-    frame[6..12].copy_from_slice(&source);
-    frame
-}
-
-/// The frame with the source 03-00-00-00-00-01, a group address (F4).
-fn from_a_group(frame: Vec<u8>) -> Vec<u8> {
-    sent_by([0x03, 0x00, 0x00, 0x00, 0x00, 0x01], frame)
-}
-
-/// A table with the buffer that is lent to it.
-#[derive(Clone, Debug, PartialEq, Eq)]
-struct Watch {
-    table: Table,
-    buffer: Vec<u8>,
-}
-
 impl Watch {
-    fn started() -> Watch {
-        let mut watch = Watch { table: Table::default(), buffer: vec![0xEE; BUFFER_OCTETS] };
-        watch.table.port[3] = 255;
-        watch.table.seconds[0] = 1;
-        watch.table.length[LAST_PLACE] = 65_535;
-        watch.table.sender[1] = STATION;
-        watch.table.sender[LAST_PLACE] = [0xFF; 6];
-        assert_eq!(watch.start(), Ok(()));
-        watch
-    }
-
-    /// Each of these ports holds so many neighbours.
+    /// Each of these ports holds so many neighbours, each of a chassis of its own.
     fn holding(ports: &[(usize, u8)]) -> Watch {
-        let mut watch = Watch::started();
-        for &(port, count) in ports {
-            for number in 1..=count {
-                let frame = neighbour(numbered(port, number));
-                assert_eq!(watch.frame(port, &frame), Ok(Recorded));
-            }
-        }
-        watch
+        let of_port = |&(port, count)| {
+            (1..=count).map(move |number| (port, neighbour(numbered(port, number))))
+        };
+        Watch::hearing(ports.iter().flat_map(of_port))
     }
 
     /// The first half of the ports hold six each, the next one holds two (B13).
     fn of_b13() -> Watch {
         let first_half = (0..HALF).map(|port| (port, 6));
-        Watch::holding(&first_half.chain([(HALF, 2)]).collect::<Vec<_>>())
-    }
-
-    fn start(&mut self) -> Result<(), Refusal> {
-        self.table.start(&mut self.buffer)
-    }
-
-    fn frame(&mut self, port: usize, frame: &[u8]) -> Result<Reply, Refusal> {
-        self.table.frame_on_port(&mut self.buffer, port, frame)
-    }
-
-    fn seconds(&mut self, seconds: u16) -> Result<(), Refusal> {
-        self.table.seconds_passed(&mut self.buffer, seconds)
-    }
-
-    fn lost(&mut self, port: usize) -> Result<(), Refusal> {
-        self.table.link_lost(&mut self.buffer, port)
-    }
-
-    fn holds(&self, port: usize) -> Result<usize, Refusal> {
-        self.table.how_many(&self.buffer, port)
-    }
-
-    fn sees(&self, address: [u8; 6], from: usize) -> Result<Option<Sighting>, Refusal> {
-        self.table.who_sees(&self.buffer, address, from)
+        Watch::crowded(&first_half.chain([(HALF, 2)]).collect::<Vec<_>>())
     }
 
     /// The place has these numbers and octets, and zeros behind them. It is from the source of frame
@@ -162,35 +62,6 @@ impl Watch {
     /// Hears A with another chassis and other seconds on port 3.
     fn hears(&mut self, chassis: &Id, seconds: u8) -> Result<Reply, Refusal> {
         self.frame(3, &[&HEADER[..], &announced(chassis, seconds)].concat())
-    }
-
-    /// Calls that answer with a refusal leave everything as it was (R12).
-    fn refuses(&mut self, due: Refusal, call: impl Fn(&mut Watch) -> Option<Refusal>) {
-        let before = self.clone();
-        assert_eq!(call(self), Some(due));
-        assert_eq!(*self, before);
-    }
-
-    /// All calls but Start refuse with 1, whatever the port, the frame and the start are (R11).
-    fn is_unfit(&mut self) {
-        for port in [0, LAST_PORT, PORTS, usize::MAX] {
-            self.refuses(1, |watch| watch.frame(port, &neighbour(1)).err());
-            self.refuses(1, |watch| watch.frame(port, &goodbye(1)).err());
-            self.refuses(1, |watch| watch.frame(port, &[]).err());
-            self.refuses(1, |watch| watch.frame(port, &from_a_group(neighbour(1))).err());
-            self.refuses(1, |watch| watch.lost(port).err());
-            self.refuses(1, |watch| watch.holds(port).err());
-        }
-        for seconds in [0, 1, 65_535] {
-            self.refuses(1, |watch| watch.seconds(seconds).err());
-        }
-        for from in [0, LAST_PLACE, PLACES, usize::MAX] {
-            self.refuses(1, |watch| watch.sees([0; 6], from).err());
-        }
-    }
-
-    fn is_fit(&self) -> bool {
-        self.holds(0).is_ok()
     }
 }
 
@@ -331,9 +202,9 @@ fn what_makes_an_identity() {
     assert_eq!(watch.frame(1, &frame(&[])), Ok(Recorded));
     // A port ID of which the known one is the beginning.
     let two = [&HEADER[..], &A[..9], &[0x04, 0x03, 0x07, 0x31, 0x00], &A[13..]].concat();
-    assert_eq!(watch.frame(0, &two), Ok(Recorded));
-    assert_eq!(watch.holds(0), Ok(6));
-    assert_eq!(watch.holds(1), Ok(1));
+    assert_eq!(watch.frame(1, &two), Ok(Recorded));
+    assert_eq!(watch.holds(0), Ok(5));
+    assert_eq!(watch.holds(1), Ok(2));
     // Destination, source, seconds and what follows them play no part.
     let mut other = sent_by([8, 9, 9, 9, 9, 9], frame(&[(SECONDS, 0xFF), (25, 0x42)]));
     other[..6].copy_from_slice(&NEAREST);
@@ -439,38 +310,6 @@ fn frames_that_change_nothing_leave_the_senders() {
     watch.has_from(SECOND, 0, 0, 120, &lldpdu(&[(CHASSIS, 1)]));
 }
 
-/// Six chassis that are much alike: in all octets, in the first or last ones, or spelled (N2).
-fn much_alike() -> [[Id; 6]; 3] {
-    let mut other_end = [0x30; 64];
-    other_end[63] = 0x46;
-    [
-        [
-            id(4, b"ABCDEF"),
-            id(7, b"ABCDEF"),
-            id(4, b"ABCDEF01"),
-            id(7, b"ABCDEF01"),
-            id(7, b"ABCD"),
-            id(7, b"414243444546"),
-        ],
-        [
-            id(4, &[0x02, 0x00, 0x00, 0x00, 0x00, 0x01]),
-            id(7, b"020000000001"),
-            id(4, &[0x02, 0x00, 0x00, 0x00, 0x00, 0x01, 0x00, 0x00]),
-            id(7, b"0200000000010000"),
-            id(4, &[0x02, 0x00, 0x00, 0x00, 0x00, 0x01, 0x00, 0x01]),
-            id(4, &[0x00, 0x00, 0x02, 0x00, 0x00, 0x00, 0x00, 0x01]),
-        ],
-        [
-            id(7, &[0x30; 64]),
-            id(7, &other_end),
-            id(7, &[0x30; 62]),
-            id(7, &[0x30; 2]),
-            id(7, &[0x30; 6]),
-            id(4, &[0x30; 6]),
-        ],
-    ]
-}
-
 #[test]
 fn chassis_of_each_kind_are_told_apart() {
     for crowd in much_alike() {
@@ -549,10 +388,11 @@ fn frames_from_a_group_address_change_nothing() {
     let mut watch = Watch::of_b13();
     assert_eq!(watch.seconds(20), Ok(()));
     for (port, frame, due) in [
-        (0, neighbour(7), Err(7)),
-        (HALF, neighbour(numbered(HALF, 3)), Err(8)),
-        (HALF + 1, neighbour(numbered(HALF + 1, 1)), Ok(Recorded)),
-        (0, neighbour(1), Ok(Refreshed)),
+        (0, nth(7), Err(7)),
+        (0, one_of(1, 4), Err(13)),
+        (HALF, nth(3), Err(8)),
+        (HALF + 1, nth(1), Ok(Recorded)),
+        (0, nth(1), Ok(Refreshed)),
         (0, frame(&[(CHASSIS, 2), (SECONDS_LOW, 0)]), Ok(Gone)),
         (0, goodbye(1), Ok(Gone)),
         (0, goodbye(99), Ok(UnknownGoodbye)),
@@ -567,15 +407,15 @@ fn frames_from_a_group_address_change_nothing() {
 fn the_run_cases() {
     let mut watch = Watch::of_b13();
     let next = HALF + 1;
-    let third = numbered(HALF, 3);
-    watch.refuses(7, |watch| watch.frame(0, &neighbour(7)).err());
-    watch.refuses(8, |watch| watch.frame(HALF, &neighbour(third)).err());
-    assert_eq!(watch.frame(next, &neighbour(numbered(next, 1))), Ok(Recorded));
-    assert_eq!(watch.frame(next, &neighbour(numbered(next, 2))), Ok(Recorded));
-    watch.refuses(8, |watch| watch.frame(next, &neighbour(numbered(next, 3))).err());
-    assert_eq!(watch.frame(0, &goodbye(6)), Ok(Gone));
-    assert_eq!(watch.frame(HALF, &neighbour(third)), Ok(Recorded));
-    watch.has(5, HALF, 120, &lldpdu(&[(CHASSIS, third)]));
+    watch.refuses(7, |watch| watch.frame(0, &nth(7)).err());
+    watch.refuses(8, |watch| watch.frame(HALF, &nth(3)).err());
+    assert_eq!(watch.frame(next, &nth(1)), Ok(Recorded));
+    assert_eq!(watch.frame(next, &nth(2)), Ok(Recorded));
+    watch.refuses(8, |watch| watch.frame(next, &nth(3)).err());
+    // The fourth is the first of the second chassis.
+    assert_eq!(watch.frame(0, &goodbye(2)), Ok(Gone));
+    assert_eq!(watch.frame(HALF, &nth(3)), Ok(Recorded));
+    watch.has(3, HALF, 120, &lldpdu(&[(PORT_ID, 0x33)]));
     assert_eq!(watch.holds(0), Ok(5));
     assert_eq!(watch.holds(HALF), Ok(3));
     assert_eq!(watch.holds(next), Ok(2));
@@ -596,7 +436,7 @@ fn seven_before_eight() {
     }
     // A known one is never refused for room (N12).
     for port in 0..HALF {
-        assert_eq!(watch.frame(port, &neighbour(numbered(port, 6))), Ok(Refreshed));
+        assert_eq!(watch.frame(port, &nth(6)), Ok(Refreshed));
     }
 }
 
@@ -937,15 +777,6 @@ fn an_lldpdu_may_not_run_into_the_next_place() {
         watch.buffer[..1500].copy_from_slice(&whole);
         watch.table.length[0] = 1502;
     });
-}
-
-/// Writes a record over a place, without asking anybody.
-fn write(watch: &mut Watch, place: usize, port: u8, octets: &[u8]) {
-    watch.table.port[place] = port;
-    watch.table.seconds[place] = 120;
-    watch.table.length[place] = octets.len() as u16;
-    watch.table.sender[place] = STATION;
-    watch.buffer[1500 * place..][..octets.len()].copy_from_slice(octets);
 }
 
 #[test]

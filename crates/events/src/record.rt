@@ -10,7 +10,7 @@ use reader::text_of;
 // The octets of a record before its frame; the file has fewer than so many.
 const HEAD: usize = 19;
 
-pub(crate) const FILE: usize = 1300000;
+pub(crate) const FILE: usize = 1440000;
 
 pub(crate) struct Record {
     pub(crate) kind: u8,

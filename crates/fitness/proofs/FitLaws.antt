@@ -10,7 +10,7 @@ use borrow.Author.Tests.{eqb-true, eq-eqb, ne-eqb, leb-true, le-leb}
 use lib.Dec.{leb, eqb}
 use lib.ListN.{length, getD}
 use Rattle.tally.specs.Ranges.{allBelow}
-use Rattle.tally.proofs.TestsLaws.{both-true, both-end, held, all-fails}
+use Rattle.tally.proofs.TestsLaws.{both-true, both-hold, both-end, held, all-fails}
 use Rattle.tally.proofs.RangesLaws.{all-true, all-each}
 use Rattle.tally.proofs.CountsLaws.{first-le}
 use Rattle.rules.specs.Shares.{most, beyond, share}
@@ -22,7 +22,7 @@ use Rattle.numbers.specs.Sizes.{ports, places, common}
 use Rattle.numbers.specs.Numbers.{isFree, holds, firstFree, sharesOk}
 use Rattle.place.specs.State.{State, octets, at}
 use Rattle.marks.specs.PlaceFit.{okPlace}
-use Rattle.fitness.specs.Fit.{single, fit, Fit}
+use Rattle.fitness.specs.Fit.{single, within, fitsIn, fit, Fit}
 use Rattle.fitness.specs.View.{view}
 use Rattle.fitness.proofs.ViewLaws.{unseen, placed, holds-view, view-fits}
 
@@ -34,9 +34,9 @@ module _ (s : State) where
   right k = okPlace (at s k)
 
   abbrev tests : List Bool
-  tests = eqb (length (s .buf)) octets ∷ sharesOk (holds (s .table)) ∷ allBelow right places ∷ allBelow (single s) places ∷ []
+  tests = eqb (length (s .buf)) octets ∷ sharesOk (holds (s .table)) ∷ allBelow right places ∷ allBelow (fitsIn s) places ∷ []
 
-  -- one that fails decides, wherever it stands; where the first three hold, the identities decide
+  -- one that fails decides, wherever it stands; where the first three hold, the last one does
 
   pub unfit-length : length (s .buf) ≢ octets → false ≡ fit s
   unfolding fit
@@ -51,9 +51,9 @@ module _ (s : State) where
   unfit-places e = sym (all-fails tests 2 e)
 
   pub fit-by : {b : Bool} → length (s .buf) ≡ octets → sharesOk (holds (s .table)) ≡ true → allBelow right places ≡ true
-      → b ≡ allBelow (single s) places → b ≡ fit s
+      → b ≡ allBelow (fitsIn s) places → b ≡ fit s
   unfolding fit
-  fit-by l h p e = e ∙ sym (rw (eq-eqb (length (s .buf)) octets l, h, p, both-end (allBelow (single s) places)))
+  fit-by l h p e = e ∙ sym (rw (eq-eqb (length (s .buf)) octets l, h, p, both-end (allBelow (fitsIn s) places)))
 
   -- the test, part by part
 
@@ -62,12 +62,14 @@ module _ (s : State) where
   fit-parts e =
       let h = held tests e in
       let b = both-true (allBelow low ports) (leb (beyond ports (holds (s .table))) common) (h .1 .0) in
+      let beside : (k : ℕ) → k < places → (single s k ≡ true) × (within s k ≡ true) = λ k l. both-true (single s k) (within s k) (all-true (fitsIn s) places (h .1 .1 .1 .0) k l) in
       record {
         long = eqb-true (length (s .buf)) octets (h .0);
         good = all-true right places (h .1 .1 .0);
-        alone = all-true (single s) places (h .1 .1 .1 .0);
+        alone = λ k l. beside k l .0;
         six = λ p l. leb-true (holds (s .table) p) most (all-true low ports (b .0) p l);
         taken = leb-true (beyond ports (holds (s .table))) common (b .1);
+        three = λ k l. beside k l .1;
       }
 
   pub parts-fit : Fit s → fit s ≡ true
@@ -78,7 +80,7 @@ module _ (s : State) where
         all-each low ports (λ p l. le-leb (holds (s .table) p) most (f .six p l)),
         le-leb (beyond ports (holds (s .table))) common (f .taken),
         all-each right places (f .good),
-        all-each (single s) places (f .alone),
+        all-each (fitsIn s) places (λ k l. both-hold (f .alone k l) (f .three k l)),
       )
 
 pub fit-length : (s : State) → fit s ≡ true → length (s .buf) ≡ octets
@@ -90,11 +92,11 @@ unfolding firstFree at
 first-free-le s k l e = first-le (isFree (s .table)) places 0 k (omega arith) (omega arith) (eq-eqb (getD (s .table .length) k 0) 0 e)
 
 -- a new record that the shares have room for finds a place
-pub room-for : (s : State) → fit s ≡ true → (q : ℕ) → q < ports → share ports (holds (s .table)) q ≡ Enough → firstFree (s .table) < places
+pub room-for : (s : State) → fit s ≡ true → (own q : ℕ) → q < ports → share ports (holds (s .table)) own q ≡ Enough → firstFree (s .table) < places
 unfolding view
-room-for s e q l n =
-    let m : share ports (model.holdsIn (view s)) q ≡ Enough = ap (λ (f : ℕ → ℕ). share ports f q) (fun-ext (holds-view s)) ∙ n in
-    let a = room-free ports (view s) q (view-fits s (fit-parts s e)) l (share-fits ports (model.holdsIn (view s)) q m) in
+room-for s e own q l n =
+    let m : share ports (model.holdsIn (view s)) own q ≡ Enough = ap (λ (f : ℕ → ℕ). share ports f own q) (fun-ext (holds-view s)) ∙ n in
+    let a = room-free ports (view s) own q (view-fits s (fit-parts s e)) l (share-fits ports (model.holdsIn (view s)) own q m) in
     let k = free-tab places (placed s) a in
     let h = first-free-le s (k .0) (k .1) (unseen (at s (k .0)) (k .2)) in
     omega (arith, h, k .1)

@@ -3,7 +3,7 @@
 use Prim.Native.Nat.{ℕ, _+_, _<_}
 use mathlib.Core.Path.{_≡_, refl, sym, ap, _∙_}
 use mathlib.Core.Logic.{_≢_}
-use mathlib.Core.Bool.{Bool, true, false, not, true≢false}
+use mathlib.Core.Bool.{Bool, true, false, not}
 use mathlib.Core.List.{List}
 use native.Mathlib.Omega.{arith}
 use borrow.Author.Tests.{eq-eqb, ne-eqb, eqb-false, not-true}
@@ -58,11 +58,7 @@ module _ (hit : ℕ → Bool) (i n : ℕ) where
   pub clear-more : (j : ℕ) → Clear j → hit j ≡ false → Clear (j + 1)
   clear-more j h e = all-more (λ k. not (hit k)) j h (ap not e)
 
--- what the marks leave to be asked: a place that they do not tell apart is used, and of any other nothing else is asked
-pub apart-used : (marks : List ℕ) (i n : ℕ) → apart marks i n ≡ false → n ≢ 0
-unfolding apart
-apart-used marks i n h e = true≢false (clear-free (alike marks i) i n e ∙ h)
-
+-- a place that its mark tells apart has an identity of its own
 pub apart-single : (s : State) (marks : List ℕ) → Marked s marks → (i : ℕ) → i < places → apart marks i (at s i .len) ≡ true → single s i ≡ true
 unfolding apart single
 apart-single s marks h i a e = go (eqb (at s i .len) 0) refl e

@@ -2,32 +2,34 @@
 -- What the view does not show is the buffer's length and what lies inside a place; `fit-view` asks for these beside it.
 use Prim.Native.Nat.{ℕ, zero, suc, _≤_, _<_}
 use mathlib.Core.Path.{_≡_, refl, sym, ap, ap₂, _∙_, fun-ext}
-use mathlib.Core.Logic.{_≢_}
+use mathlib.Core.Logic.{_≢_, ⊎-elim}
 use mathlib.Core.Bool.{Bool, true, false, not}
 use mathlib.Core.Option.{Option, none, some, Option·none-ne-some}
 use native.Mathlib.Omega.{arith}
-use borrow.Author.Tests.{eqb-true, eqb-false, eq-eqb, ne-eqb, ltb-true, ltb-false, not-true}
-use lib.Dec.{ltb, eqb}
+use borrow.Author.Tests.{eqb-true, eqb-false, eq-eqb, ne-eqb, ltb-true, ltb-false, leb-true, le-leb, not-true}
+use lib.Dec.{leb, ltb, eqb}
 use lib.ListN.{length, getD}
 use Rattle.tally.specs.Tests.{pick, both}
 use Rattle.tally.specs.Ranges.{allBelow}
 use Rattle.tally.specs.Counts.{one, count}
 use Rattle.tally.proofs.TestsLaws.{both-true}
 use Rattle.tally.proofs.RangesLaws.{all-true, all-each}
+use Rattle.tally.proofs.CountsLaws.{count-some}
+use Rattle.ids.specs.Id.{Id}
 use Rattle.rules.specs.Identity.{Ident, same}
-use Rattle.rules.specs.Shares.{most, beyond, portIs}
+use Rattle.rules.specs.Shares.{most, perChassis, beyond, portIs, chassisIs}
 use Rattle.rules.specs.Model as model
 use Rattle.rules.specs.Model.{Rec, hits, tally}
 use Rattle.rules.specs.Fit as model-fit
 use Rattle.rules.specs.Fit.{Once}
 use Rattle.rules.specs.Tab.{tab}
-use Rattle.rules.proofs.SharesLaws.{ports-none}
+use Rattle.rules.proofs.SharesLaws.{chassis-true, ports-none}
 use Rattle.rules.proofs.TabLaws.{Apart, length-tab, getD-tab, tally-tab, in-tab, once-tab, tab-once}
 use Rattle.numbers.specs.Sizes.{ports, places, common}
 use Rattle.numbers.specs.Numbers.{holds}
-use Rattle.place.specs.State.{Place, State, octets, at, used, whoAt, isOf, countRecords}
+use Rattle.place.specs.State.{Place, State, octets, at, used, whoAt, isOf, passes, countRecords}
 use Rattle.marks.specs.PlaceFit.{okPlace, okUsed}
-use Rattle.fitness.specs.Fit.{single, Fit}
+use Rattle.fitness.specs.Fit.{single, within, Fit}
 use Rattle.fitness.specs.View.{recOf, placeOf, view}
 
 -- One place
@@ -130,6 +132,20 @@ module _ (s : State) where
       let z : same (whoAt (at s j)) w ≡ false = rw (ne-eqb (at s j .len) 0 (a .used)) at r in
       ap₂ (λ (f g : Rec). same (f .who) (g .who)) (a .is) (b .is) ∙ z
 
+  -- a chassis that holds none holds no more than three; one that holds some has a place, which was asked
+  within-three : ((k : ℕ) → k < places → within s k ≡ true) → (q : ℕ) (c : Id) → model.holdsOf (view s) q c ≤ perChassis
+  unfolding within countRecords
+  within-three h q c = rw (← count-view s (chassisIs q c)) (⊎-elim (λ z. omega (arith, z)) (λ z. asked (z .0) (z .1 .0) (z .1 .1)) (count-some (passes s (chassisIs q c)) places))
+    where
+      asked : (k : ℕ) → k < places → passes s (chassisIs q c) k ≡ true → countRecords s (chassisIs q c) ≤ perChassis
+      asked k l e =
+          let w = whoAt (at s k) in
+          let u = both-true (used (at s k)) (chassisIs q c w) e in
+          let z = chassis-true q c w (u .1) in
+          let y : leb (countRecords s (chassisIs (w .port) (w .chassis))) perChassis ≡ true = rw (not-true (eqb (at s k .len) 0) (u .0)) at (h k l) in
+          let x : leb (countRecords s (chassisIs q c)) perChassis ≡ true = ap₂ (λ (p : ℕ) (d : Id). leb (countRecords s (chassisIs p d)) perChassis) (sym (z .0)) (sym (z .1)) ∙ y in
+          leb-true (countRecords s (chassisIs q c)) perChassis x
+
   pub view-fits : Fit s → model-fit.FitPlaces ports (view s)
   unfolding view
   view-fits f =
@@ -140,6 +156,7 @@ module _ (s : State) where
         ports = low;
         six = λ q. six-of low q (ltb q ports) refl;
         common = rw (beyond-view s ports) (f .taken);
+        three = within-three (f .three);
       }
     where
       port-of : (k : ℕ) (y : Rec) → k < places → Seen (at s k) y → y .who .port < ports
@@ -170,6 +187,20 @@ module _ (s : State) where
       go true e = refl
       go false e = all-each (λ j. not (isOf s w j)) k (λ j l. ap not (below (eqb-false (at s k .len) 0 e) j l (eqb (at s j .len) 0) refl))
 
+  within-of : ((q : ℕ) (c : Id) → model.holdsOf (view s) q c ≤ perChassis) → (k : ℕ) → k < places → within s k ≡ true
+  unfolding within
+  within-of h k m = go (eqb (at s k .len) 0)
+    where
+      w : Ident
+      w = whoAt (at s k)
+
+      low : countRecords s (chassisIs (w .port) (w .chassis)) ≤ perChassis
+      low = rw (count-view s (chassisIs (w .port) (w .chassis))) (h (w .port) (w .chassis))
+
+      go : (b : Bool) → pick b true (leb (countRecords s (chassisIs (w .port) (w .chassis))) perChassis) ≡ true
+      go true = refl
+      go false = le-leb (countRecords s (chassisIs (w .port) (w .chassis))) perChassis low
+
   pub fit-view : length (s .buf) ≡ octets → ((k : ℕ) → k < places → okPlace (at s k) ≡ true) → model-fit.FitPlaces ports (view s) → Fit s
   fit-view l g f =
       record {
@@ -178,4 +209,5 @@ module _ (s : State) where
         alone = single-of (f .once);
         six = λ q h. rw (← holds-view s q) (f .six q);
         taken = rw (← beyond-view s ports) (f .common);
+        three = within-of (f .three);
       }

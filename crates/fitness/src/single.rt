@@ -1,10 +1,9 @@
-// No identity occurs twice (N5 d): each place against those below it.
+// No identity occurs twice (N5 d): a place against those below it.
 // Identities are compared only where their marks are equal.
 ghost use mathlib.Core.Path.{_≡_};
 ghost use mathlib.Core.Logic.{_≢_};
 ghost use Prim.Native.Nat.{_<_};
 ghost use lib.ListN.{length, getD};
-ghost use Rattle.tally.specs.Ranges.{allBelow};
 ghost use Rattle.numbers.specs.Sizes.{places};
 ghost use Rattle.place.specs.State.{octets, at, state, whoAt, isOf};
 ghost use Rattle.fitness.specs.Fit.{single};
@@ -16,7 +15,7 @@ use place::is_of;
 use place::lldpdu_at;
 
 // Place i, of which so many octets are kept, is free, or no place below it has its mark.
-fn is_apart(marks: &[u32], i: usize, kept: u16) -> bool
+pub(crate) fn is_apart(marks: &[u32], i: usize, kept: u16) -> bool
     requires { ⌜ i < length (now marks) ⌝ }
     ensures { λ r. ⌜ r ≡ apart (now (marks .entry)) i kept ⌝ }
 {
@@ -52,7 +51,7 @@ fn is_twin(t: Table, buffer: &[u8], i: usize, j: usize) -> bool
 }
 
 // No place below i has the identity of place i, which is used (N5 d).
-fn is_single(t: Table, buffer: &[u8], marks: [u32; PLACES], i: usize) -> bool
+pub(crate) fn is_single(t: Table, buffer: &[u8], marks: [u32; PLACES], i: usize) -> bool
     requires { ⌜ (i < places) × ((length (now buffer) ≡ octets) × (Marked (state t (now buffer)) marks × (getD (t .length) i 0 ≢ 0))) ⌝ }
     ensures { λ r. ⌜ r ≡ single (state t (now (buffer .entry))) i ⌝ }
 {
@@ -60,20 +59,6 @@ fn is_single(t: Table, buffer: &[u8], marks: [u32; PLACES], i: usize) -> bool
     for j in 0..i {
         if marks[j] == mark {
             if is_twin(t, buffer, i, j) {
-                return false;
-            }
-        }
-    }
-    true
-}
-
-pub(crate) fn all_single(t: Table, buffer: &[u8], marks: [u32; PLACES]) -> bool
-    requires { ⌜ (length (now buffer) ≡ octets) × Marked (state t (now buffer)) marks ⌝ }
-    ensures { λ r. ⌜ r ≡ allBelow (single (state t (now (buffer .entry)))) places ⌝ }
-{
-    for i in 0..PLACES {
-        if is_apart(&marks, i, t.length[i]) {} else {
-            if is_single(t, buffer, marks, i) {} else {
                 return false;
             }
         }

@@ -26,10 +26,10 @@ use Rattle.reader.specs.Frame.{sourceOf, frameOk, onFrame, frameRows}
 use Rattle.reader.proofs.FrameLaws.{frame-size, on-good, on-bad}
 use Rattle.rules.specs.Identity.{Ident}
 use Rattle.rules.specs.Events.{Announcement, Heard, unread, says, whose}
-use Rattle.rules.specs.Shares.{sure, most, beyond, share, room}
+use Rattle.rules.specs.Shares.{sure, most, perChassis, beyond, chassisIs, share, room}
 use Rattle.rules.specs.Answers.{refusalOfReply}
 use Rattle.rules.specs.declared.Room.{Room}
-use Rattle.rules.specs.declared.Room.the-variants.{Enough, Full, Taken}
+use Rattle.rules.specs.declared.Room.the-variants.{Enough, Loud, Full, Taken}
 use Rattle.rules.specs.declared.Reply.{Reply}
 use Rattle.rules.specs.declared.Reply.the-variants.{Refreshed, Gone, UnknownGoodbye, Refused}
 use Rattle.numbers.specs.Sizes.{ports, places, common}
@@ -59,7 +59,7 @@ module _ (k n : ℕ) (x : Place) (s : State) where
   at-kept u = rw (ne-eqb n 0 u)
 
 -- a new one, with the room that the table's own counts leave
-pub room-share : (s : State) (w : Ident) → room ports (countRecords s) w ≡ share ports (holds (s .table)) (w .port)
+pub room-share : (s : State) (w : Ident) → room ports (countRecords s) w ≡ share ports (holds (s .table)) (countRecords s (chassisIs (w .port) (w .chassis))) (w .port)
 unfolding room countRecords holds at
 room-share s w = refl
 
@@ -68,7 +68,8 @@ module _ (n : ℕ) (w : Ident) (x : Place) (s : State) where
   unfolding heardNew
   new-goodbye e = rw (eq-eqb n 0 e)
 
-  pub new-room : {r : Room} → n ≢ 0 → r ≡ share ports (holds (s .table)) (w .port) → {q : Room} → r ≡ q → heardByRoom q x s ≡ heardNew n w x s
+  pub new-room : {r : Room} → n ≢ 0 → r ≡ share ports (holds (s .table)) (countRecords s (chassisIs (w .port) (w .chassis))) (w .port) → {q : Room} → r ≡ q
+      → heardByRoom q x s ≡ heardNew n w x s
   unfolding heardNew
   new-room u e d = rw (ne-eqb n 0 u, room-share s w, sym e ∙ d)
 
@@ -148,20 +149,23 @@ module _ (s : State) (p : ℕ) (f : fit s ≡ true) (l : p < ports) where
   said-refusal a =
       let h = holds (s .table) p in
       rw (room-share s (whose p a), not-below (find s (whose p a)) places, not-below h sure, below-or-at h most (fit-parts s f .six p l))
-      (go (ltb (find s (whose p a)) places) (eqb (a .seconds) 0) (ltb h sure) (eqb h most) (eqb (beyond ports (holds (s .table))) common) (λ e. ne-eqb h most (omega (arith, ltb-true h sure e))))
+      (go (ltb (find s (whose p a)) places) (eqb (a .seconds) 0) (eqb (countRecords s (chassisIs p (a .chassis))) perChassis) (ltb h sure) (eqb h most)
+      (eqb (beyond ports (holds (s .table))) common) (λ e. ne-eqb h most (omega (arith, ltb-true h sure e))))
     where
-      go : (known goodbye few full taken : Bool) → (few ≡ true → full ≡ false)
+      go : (known goodbye loud few full taken : Bool) → (few ≡ true → full ≡ false)
           → refusalOfReply (pick known (pick goodbye (telling Gone (put s (find s (whose p a)) free)) (telling Refreshed (put s (find s (whose p a)) (kept p a))))
-          (pick goodbye (telling UnknownGoodbye s) (heardByRoom (pick few Enough (pick full Full (pick taken Taken Enough))) (kept p a) s)) .outcome .reply)
-          ≡ pick (both (both (not goodbye) (not known)) full) 7 (pick (both (both (not goodbye) (not known)) (both (not few) (both (not full) (both taken true)))) 8 0)
-      go true true few full taken e = refl
-      go true false few full taken e = refl
-      go false true few full taken e = refl
-      go false false true true taken e = let z : _≡_ {A = Bool} true false = e refl in cc
-      go false false true false taken e = refl
-      go false false false true taken e = refl
-      go false false false false true e = refl
-      go false false false false false e = refl
+          (pick goodbye (telling UnknownGoodbye s) (heardByRoom (pick loud Loud (pick few Enough (pick full Full (pick taken Taken Enough)))) (kept p a) s)) .outcome .reply)
+          ≡ pick (both (both (not goodbye) (not known)) loud) 13
+          (pick (both (both (not goodbye) (not known)) full) 7 (pick (both (both (not goodbye) (not known)) (both (not few) (both (not full) (both taken true)))) 8 0))
+      go true true loud few full taken e = refl
+      go true false loud few full taken e = refl
+      go false true loud few full taken e = refl
+      go false false true few full taken e = refl
+      go false false false true true taken e = let z : _≡_ {A = Bool} true false = e refl in cc
+      go false false false true false taken e = refl
+      go false false false false true taken e = refl
+      go false false false false false true e = refl
+      go false false false false false false e = refl
 
   heard-refusal : (f : List ℕ) → refusalOfReply (onHeard (heardOf f) p s .outcome .reply) ≡ firstDue (frameRows f (roomRows (heardOf f) p s))
   unfolding heardOf onFrame outlineOf
@@ -192,12 +196,13 @@ fit-not-1 p f s e = rw (e, extent-rows (drop 14 f) (roomRows (heardOf f) p s)) (
   where
     for-room : (x : Heard) → firstDue (roomRows x p s) ≢ 1
     for-room (unread k) z = absurd (omega arith)
-    for-room (says a) z = decide (both (isNew s p a) (eqb (holds (s .table) p) most)) (all (isNew s p a ∷ leb sure (holds (s .table) p) ∷ ltb (holds (s .table) p) most ∷ eqb (beyond ports (holds (s .table))) common ∷ [])) z
+    for-room (says a) z = decide (both (isNew s p a) (eqb (countRecords s (chassisIs p (a .chassis))) perChassis)) (both (isNew s p a) (eqb (holds (s .table) p) most)) (all (isNew s p a ∷ leb sure (holds (s .table) p) ∷ ltb (holds (s .table) p) most ∷ eqb (beyond ports (holds (s .table))) common ∷ [])) z
       where
-        decide : (b d : Bool) → _≢_ {A = ℕ} (pick b 7 (pick d 8 0)) 1
-        decide true d z = absurd (omega arith)
-        decide false true z = absurd (omega arith)
-        decide false false z = absurd (omega arith)
+        decide : (l b d : Bool) → _≢_ {A = ℕ} (pick l 13 (pick b 7 (pick d 8 0))) 1
+        decide true b d z = absurd (omega arith)
+        decide false true d z = absurd (omega arith)
+        decide false false true z = absurd (omega arith)
+        decide false false false z = absurd (omega arith)
 
     go : (b d : Bool) (x : Extent) → Few x → pick b 2 (pick (not d) 3 (dueIn x (firstDue (roomRows (heardOf f) p s)))) ≢ 1
     go true d x y z = absurd (omega arith)

@@ -14,10 +14,10 @@ use Rattle.walk.specs.declared.Extent.the-variants as extent-is
 use Rattle.reader.specs.Frame.{sourceOf, lldpduOf, onFrame, frameRows}
 use Rattle.rules.specs.Identity.{Ident}
 use Rattle.rules.specs.Events.{Announcement, Heard, unread, says, whose}
-use Rattle.rules.specs.Shares.{sure, most, beyond, room}
+use Rattle.rules.specs.Shares.{sure, most, perChassis, beyond, chassisIs, room}
 use Rattle.rules.specs.Answers.{refusalOfReply}
 use Rattle.rules.specs.declared.Room.{Room}
-use Rattle.rules.specs.declared.Room.the-variants.{Enough, Full, Taken}
+use Rattle.rules.specs.declared.Room.the-variants.{Enough, Loud, Full, Taken}
 use Rattle.rules.specs.declared.Reply.{Reply}
 use Rattle.rules.specs.declared.Reply.the-variants.{Recorded, Refreshed, Gone, UnknownGoodbye, Refused}
 use Rattle.numbers.specs.Sizes.{ports, places, common}
@@ -66,6 +66,7 @@ heardAt k n x s = pick (eqb n 0) (telling Gone (put s k free)) (telling Refreshe
 
 -- what the room that there is makes of a new record
 abbrev pub heardByRoom : Room → Place → State → Told
+heardByRoom Loud x s = telling (Refused 13) s
 heardByRoom Full x s = telling (Refused 7) s
 heardByRoom Taken x s = telling (Refused 8) s
 heardByRoom Enough x s = telling Recorded (put s (firstFree (s .table)) x)
@@ -86,18 +87,20 @@ onHeard (says a) p s = heardSaying p a s
 unfoldable pub heard : ℕ → List ℕ → State → Told
 heard p f s = pick (fit s) (pick (ltb p ports) (onHeard (heardOf f) p s) (telling (Refused 2) s)) (telling (Refused 1) s)
 
--- The refusal number, row by row as R1 to R8 list them: the TLVs front to back, and behind the End what a valid LLDPDU leads to
+-- The refusal number, row by row in the order of R11: R1 to R3, the TLVs front to back, and behind the End what a valid LLDPDU leads to
 
--- a new identity with seconds above 0, on a port that holds h: 7 where it holds six, 8 where it holds two to five and the common places are taken
-abbrev pub forRoom : Bool → ℕ → ℕ → List (Bool × ℕ)
-forRoom new h taken = (both new (eqb h most), 7) ∷ (all (new ∷ leb sure h ∷ ltb h most ∷ eqb taken common ∷ []), 8) ∷ []
+-- a new identity with seconds above 0, of a chassis that holds `own` on a port that holds h: 13 where the chassis holds three,
+-- 7 where the port holds six, 8 where it holds two to five and the common places are taken
+abbrev pub forRoom : Bool → ℕ → ℕ → ℕ → List (Bool × ℕ)
+forRoom new own h taken =
+    (both new (eqb own perChassis), 13) ∷ (both new (eqb h most), 7) ∷ (all (new ∷ leb sure h ∷ ltb h most ∷ eqb taken common ∷ []), 8) ∷ []
 
 abbrev pub isNew : State → ℕ → Announcement → Bool
 isNew s p a = both (not (eqb (a .seconds) 0)) (leb places (find s (whose p a)))
 
 abbrev pub roomRows : Heard → ℕ → State → List (Bool × ℕ)
 roomRows (unread k) p s = []
-roomRows (says a) p s = forRoom (isNew s p a) (holds (s .table) p) (beyond ports (holds (s .table)))
+roomRows (says a) p s = forRoom (isNew s p a) (countRecords s (chassisIs p (a .chassis))) (holds (s .table) p) (beyond ports (holds (s .table)))
 
 unfoldable pub refusalOnFrame : ℕ → List ℕ → State → ℕ
 refusalOnFrame p f s = firstDue ((not (fit s), 1) ∷ (leb ports p, 2) ∷ frameRows f (roomRows (heardOf f) p s))

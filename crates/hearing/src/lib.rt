@@ -7,7 +7,7 @@ ghost use lib.ListN.{length};
 ghost use Rattle.ids.specs.Id.{idMeant};
 ghost use Rattle.lldpdu.specs.Outline.{outlineOf};
 ghost use Rattle.numbers.specs.Sizes.{ports, places};
-ghost use Rattle.place.specs.State.{size, octets, state, keep, find, ident, whoseIn, said};
+ghost use Rattle.place.specs.State.{size, octets, state, keep, find, ident, chassisIn, whoseIn, said};
 ghost use Rattle.fitness.specs.Fit.{fit};
 ghost use Rattle.hearing.specs.Frame.{heardOf, reception, told, heardAt, heardNew, heardSaying, onHeard, Hears};
 use fitness::NO_PORT;
@@ -16,6 +16,7 @@ use fitness::is_fit;
 use ids::IdPart;
 use lldpdu::Extent;
 use lldpdu::Outline;
+use loud::chassis_held;
 use numbers::PLACES;
 use numbers::PORTS;
 use numbers::Table;
@@ -32,10 +33,12 @@ use rules::Room;
 use text::Part;
 use text::text_of;
 
-// The refusals of a new one for want of room (R7, R8).
+// The refusals of a new one: for want of room (R7, R8), and for what its chassis holds (R13).
 const PORT_FULL: u8 = 7;
 
 const COMMON_TAKEN: u8 = 8;
+
+const CHASSIS_LOUD: u8 = 13;
 
 pub struct Reception {
     pub table: Table,
@@ -85,7 +88,7 @@ fn hear_known(
     reply_with(u, Reply::Refreshed)
 }
 
-// The shares decide; a fit table with room has a free place, so there is no branch without one.
+// The shares decide, with what its chassis holds on the port; a fit table with room has a free place, so there is no branch without one.
 fn hear_new(
     t: Table,
     buffer: &mut [u8],
@@ -93,14 +96,17 @@ fn hear_new(
     seconds: u16,
     sender: [u8; 6],
     l: &[u8],
+    chassis: IdPart,
 ) -> Reception
-    requires { ⌜ (fit (state t (now buffer)) ≡ true) × ((p < ports) × (length (now l) ≤ size)) ⌝ }
+    requires { ⌜ (fit (state t (now buffer)) ≡ true) × ((p < ports) × ((length (now l) ≤ size) × (idMeant (now l) chassis ≡ chassisIn (now l)))) ⌝ }
     ensures { λ r. ⌜ told r (now (buffer .exit)) ≡ heardNew seconds (whoseIn p (now (l .entry))) (keep p seconds sender (now (l .entry))) (state t (now (buffer .entry))) ⌝ }
 {
     if seconds == 0 {
         return reply_with(t, Reply::UnknownGoodbye);
     }
-    match room_of(t, p as usize) {
+    let own = chassis_held(t, buffer, p, l, chassis);
+    match room_of(t, p as usize, own) {
+        Room::Loud => reply_with(t, Reply::Refused(CHASSIS_LOUD)),
         Room::Full => reply_with(t, Reply::Refused(PORT_FULL)),
         Room::Taken => reply_with(t, Reply::Refused(COMMON_TAKEN)),
         Room::Enough => {
@@ -119,7 +125,7 @@ fn hear(t: Table, buffer: &mut [u8], p: u8, o: Outline, sender: [u8; 6], l: &[u8
     if k < PLACES {
         return hear_known(t, buffer, k, p, o.seconds, sender, l);
     }
-    hear_new(t, buffer, p, o.seconds, sender, l)
+    hear_new(t, buffer, p, o.seconds, sender, l, o.chassis)
 }
 
 // A frame on a port that there is, on a fit table.

@@ -11,19 +11,20 @@ use borrow.Author.Tests.{eqb-false, ltb-true, ltb-false, lt-ltb, leb-true, leb-f
 use lib.Dec.{ltb, leb, eqb}
 use lib.ListN.{replicate}
 use Rattle.tally.specs.Tests.{pick, both}
+use Rattle.ids.specs.Id.{Id}
 use Rattle.rules.specs.Identity.{Ident, same}
 use Rattle.rules.specs.Events.{Announcement, Heard, unread, says, Event, frame, passed, lost, History, whose}
-use Rattle.rules.specs.Shares.{placesFor, portIs, room}
+use Rattle.rules.specs.Shares.{placesFor, portIs, chassisIs, room}
 use Rattle.rules.specs.Answers.{answerTo}
 use Rattle.rules.specs.declared.Room.{Room}
-use Rattle.rules.specs.declared.Room.the-variants.{Enough, Full, Taken}
+use Rattle.rules.specs.declared.Room.the-variants.{Enough, Loud, Full, Taken}
 use Rattle.rules.specs.declared.Reply.the-variants.{Refused}
-use Rattle.rules.specs.Model.{Rec, Places, isSome, lookup, tally, holdsIn, onRecord, tick, unplug, recorded, reply, afterFrame, step, run}
+use Rattle.rules.specs.Model.{Rec, Places, isSome, lookup, tally, holdsIn, holdsOf, onRecord, tick, unplug, recorded, reply, afterFrame, step, run}
 use Rattle.rules.specs.Fit.{FitPlaces}
 use Rattle.rules.proofs.IdentityLaws.{clash, same-true}
 use Rattle.rules.proofs.EachLaws.{lookup-each}
 use Rattle.rules.proofs.FrameLaws.{tick-keeps, unplug-keeps, is-none, after, frame-lookup, step-fit, start-fit}
-use Rattle.history.specs.Past.{Latest, inForce, older, fresh, onAnswer, among, named, countBy, answerBy, hearing, losing, latest, countNeighbours, held, answer}
+use Rattle.history.specs.Past.{Latest, inForce, older, fresh, onAnswer, among, named, countBy, answerBy, hearing, losing, latest, countNeighbours, held, heldOf, answer}
 use Rattle.history.proofs.PastLaws.{losing-none}
 use Rattle.history.proofs.CountsLaws.{named-distinct, unnamed, passing-same, tally-passing}
 
@@ -69,6 +70,10 @@ module _ (n : ℕ) (h : History) (t : Places) (s : Sound n h t) where
   pub holds-held : (q : ℕ) → holdsIn t q ≡ held n h q
   unfolding held
   holds-held q = tally-count (portIs q)
+
+  pub holds-of : (q : ℕ) (c : Id) → holdsOf t q c ≡ heldOf n h q c
+  unfolding heldOf
+  holds-of q c = tally-count (chassisIs q c)
 
   pub same-answer : (p : ℕ) (x : Heard) → reply n p x t ≡ answer n h p x
   unfolding reply answer answerBy countNeighbours
@@ -131,6 +136,7 @@ own-record p a o old z true true true rm e d = refl
 own-record p a o old z true true false rm e d = is-none old d
 own-record p a o old z true false true rm e d = sym (fresh-record p a e)
 own-record p a o old z true false false Enough e d = sym (fresh-record p a e)
+own-record p a o old z true false false Loud e d = z
 own-record p a o old z true false false Full e d = z
 own-record p a o old z true false false Taken e d = z
 own-record p a o old z false g k rm e d = z

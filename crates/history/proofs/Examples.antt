@@ -1,6 +1,6 @@
--- The run cases (B13) and a neighbour from two sources, computed twice: what the history answers and holds by its rules alone, and what the model's table does.
--- That the two agree on every history is `demand3`; these show that they say what B13 says.
-use Prim.Native.Nat.{ℕ, zero, suc, _+_, _-_}
+-- The run cases (B13), a loud chassis (B25) and a neighbour from two sources, computed twice: what the history answers and holds by its rules alone, and what
+-- the model's table does. That the two agree on every history is `demand3`; these show that they say what B13 and B25 say.
+use Prim.Native.Nat.{ℕ, zero, suc, _+_, _-_, _/_}
 use mathlib.Core.Path.{_≡_, refl}
 use mathlib.Core.Bool.{false}
 use mathlib.Core.List.{List, [], _∷_, _++_}
@@ -13,7 +13,7 @@ use Rattle.rules.specs.Identity.{same}
 use Rattle.rules.specs.Events.{Announcement, Heard, says, frame, passed, History, whose}
 use Rattle.rules.specs.Shares.{beyond, share, room}
 use Rattle.rules.specs.declared.Reply.{Reply}
-use Rattle.rules.specs.declared.Reply.the-variants.{Recorded, Gone, Refused}
+use Rattle.rules.specs.declared.Reply.the-variants.{Recorded, Refreshed, Gone, UnknownGoodbye, Refused}
 use Rattle.rules.specs.Model.{Places, tick, swap, holdsIn, reply, afterFrame, run}
 use Rattle.history.specs.Past.{countBy, answerBy, hearing, latest, present, countNeighbours, held, answer}
 
@@ -28,9 +28,13 @@ bench-ports = half + half
 abbrev address : ℕ → List ℕ
 address k = 2 ∷ 0 ∷ 0 ∷ 0 ∷ 0 ∷ k ∷ []
 
--- one switch whose agents differ in port ID: agent k announces itself with some seconds, from a source that ends in j
+-- switches whose agents differ in port ID: agent k of switch c announces itself with some seconds, from a source that ends in j
+abbrev announced : ℕ → ℕ → ℕ → ℕ → Announcement
+announced j c k seconds = record { chassis = id 4 (address c); portId = id 7 (k ∷ []); seconds = seconds; octets = k ∷ seconds ∷ []; sender = address j }
+
+-- agents 1 to 3 are of one switch, 4 to 6 of a second, 7 of a third (N13)
 abbrev agentFrom : ℕ → ℕ → ℕ → Announcement
-agentFrom j k seconds = record { chassis = id 4 (address 1); portId = id 7 (k ∷ []); seconds = seconds; octets = k ∷ seconds ∷ []; sender = address j }
+agentFrom j k seconds = announced j ((k + 2) / 3) k seconds
 
 abbrev agent : ℕ → ℕ → Announcement
 agent k seconds = agentFrom k k seconds
@@ -97,6 +101,33 @@ run-answers = refl
 pub run-replies : repliesTo bench-ports (run bench-ports bench) run-frames ≡ run-expected
 unfolding afterFrame reply swap room share beyond sum same sameId sameOctets
 run-replies = refl
+
+-- A loud chassis, from a Start on
+
+abbrev ofSwitch : ℕ → ℕ → Heard
+ofSwitch c k = says (announced k c k 120)
+
+-- three agents of switch c on port p
+abbrev three : ℕ → ℕ → List (ℕ × Heard)
+three p c = (p, ofSwitch c 1) ∷ (p, ofSwitch c 2) ∷ (p, ofSwitch c 3) ∷ []
+
+abbrev loud-frames : List (ℕ × Heard)
+loud-frames =
+    three 0 1 ++ ((0, ofSwitch 1 4) ∷ (0, ofSwitch 1 1) ∷ (0, says (announced 4 1 4 0)) ∷ (1, ofSwitch 1 4) ∷ [])
+    ++ three 0 2 ++ ((0, ofSwitch 1 4) ∷ (0, ofSwitch 2 4) ∷ (0, ofSwitch 3 1) ∷ (0, says (announced 2 1 2 0)) ∷ (0, ofSwitch 1 4) ∷ [])
+
+abbrev loud-expected : List Reply
+loud-expected =
+    replicate 3 Recorded ++ (Refused 13 ∷ Refreshed ∷ UnknownGoodbye ∷ Recorded ∷ [])
+    ++ replicate 3 Recorded ++ (Refused 13 ∷ Refused 13 ∷ Refused 7 ∷ Gone ∷ Recorded ∷ [])
+
+pub loud-answers : answersTo bench-ports [] loud-frames ≡ loud-expected
+unfolding answer countNeighbours countBy latest hearing answerBy room share beyond sum same sameId sameOctets
+loud-answers = refl
+
+pub loud-replies : repliesTo bench-ports (run bench-ports []) loud-frames ≡ loud-expected
+unfolding afterFrame reply swap room share beyond sum same sameId sameOctets
+loud-replies = refl
 
 -- Time: with 120 seconds left 119 pass, then 1 more
 

@@ -5,6 +5,7 @@ pub mod WordsLaws
 pub mod CountsLaws
 pub mod AgreeLaws
 pub mod DemandLaws
+pub mod BrokenLaws
 pub mod CallsLaws
 pub mod SeesLaws
 pub mod Runs

@@ -1,24 +1,26 @@
 -- Demand 3 for the code: it holds of every run that the contracts of the public functions allow, from `start` on.
 -- The contracts are the toolchain's own reading of the source (`Post`); nothing here looks at the code behind them.
-use Prim.Native.Nat.{ℕ, _≤_, _<_}
+use Prim.Native.Nat.{ℕ, _+_, _≤_, _<_}
 use borrow.Fn.Kinds.{Dens, resT, endedOf}
 use contract.Lifetimes.{Lfts}
 use denote.Ref.{now}
 use denote.Triple.Clauses.{AtExit}
 use mathlib.Core.Path.{_≡_, sym, ap, _∙_}
 use mathlib.Core.Logic.{_≢_, _↔_}
-use mathlib.Core.List.{List, [], _∷_}
+use mathlib.Core.List.{List, [], _∷_, _++_}
+use native.Mathlib.Omega.{arith}
 use borrow.Author.Tests.{eq-eqb}
 use lib.Dec.{ltb, eqb}
 use lib.ListN.{length}
 use Rattle.tally.specs.Tests.{pick}
+use Rattle.ids.specs.Id.{Id}
 use Rattle.naming.specs.declared.Number.{Number}
 use Rattle.rules.specs.Events as event
 use Rattle.rules.specs.Events.{Announcement, Heard, says, History, whose}
-use Rattle.rules.specs.Shares.{sure, most}
+use Rattle.rules.specs.Shares.{sure, most, perChassis}
 use Rattle.rules.specs.Answers.{refusalOfReply}
-use Rattle.rules.specs.declared.Reply.the-variants.{Recorded, Refreshed, Gone, Refused}
-use Rattle.rules.specs.Model.{Places, reply}
+use Rattle.rules.specs.declared.Reply.the-variants.{Recorded, Refreshed, Gone, UnknownGoodbye, Refused}
+use Rattle.rules.specs.Model.{Places, holdsIn, holdsOf, reply}
 use Rattle.numbers.specs.Sizes.{ports}
 use Rattle.place.specs.State.{State, octets, state}
 use Rattle.fitness.specs.Refusals.{refusalWhenUnfit}
@@ -44,11 +46,13 @@ use Rattle.questions.proofs.who_sees.Kinds as sees-kinds
 use Rattle.questions.proofs.who_sees.Reads as who-sees
 use Rattle.history.specs.Past.{held, answer}
 use Rattle.history.specs.Words.{Neighbour}
-use Rattle.history.specs.Demand.{New, CommonTaken, Demand3}
+use Rattle.history.specs.Demand.{New, CommonTaken, Loud, Demand3}
+use Rattle.history.specs.Broken.{AllOfChassis, AtMost}
 use Rattle.history.specs.Calls.{Called, begun, frame, waited, unplugged, NeighbourNames, Lowest}
 use Rattle.fitness.proofs.FitLaws.{fit-parts}
 use Rattle.hearing.proofs.ReplyLaws.{fit-not-1}
-use Rattle.history.proofs.CallsLaws.{always-fit, demand3-table, demand3-replies, demand3-answers, demand3-passed, demand3-lost, demand3-holds}
+use Rattle.history.proofs.BrokenLaws.{at-most}
+use Rattle.history.proofs.CallsLaws.{reached, always-fit, demand3-table, demand3-replies, demand3-answers, demand3-passed, demand3-lost, demand3-holds}
 use Rattle.history.proofs.SeesLaws.{demand3-sees, demand3-unseen}
 
 -- A run: each call is made on the table and the octets that the call before left, and may return whatever its contract allows.
@@ -77,6 +81,15 @@ ran-called (ran-lost κs a r x c post) = arrives (ap stateAfter (post .exact)) (
 pub demand3-code : {s : State} {h : History} → Ran s h → Demand3 ports h (view s)
 demand3-code c = demand3-table (ran-called c)
 
+-- A broken agent: a run goes on from s to s′, and there nothing came but frames of chassis c on port p
+module _ {s s′ : State} {h : History} (later : History) (p : ℕ) (c : Id) (r : Ran s h) (r′ : Ran s′ (later ++ h)) (a : AllOfChassis p c later) where
+  pub code-at-most : AtMost (view s) (view s′) p c
+  code-at-most = rw (reached (ran-called r) .seen, reached (ran-called r′) .seen) (at-most p c ports h later a)
+
+  -- so where the port held none of it, three places of that port are all it took
+  pub code-broken-agent : holdsOf (view s) p c ≡ 0 → holdsIn (view s′) p ≤ holdsIn (view s) p + perChassis
+  code-broken-agent z = omega (arith, code-at-most .three, code-at-most .grown, z)
+
 -- One frame more: `frame_on_port` was called after a run and returned r
 module _ {h : History} (κs : Lfts 2) (a : Dens κs frame-kinds.ps) (r : resT frame-kinds.r κs .Denot) (x : AtExit (endedOf 2 frame-kinds.ps frame-kinds.r) κs)
     (c : Ran (state (a .0) (now (a .1 .0))) h) (post : frame-on-port.Post κs a r x) where
@@ -104,17 +117,27 @@ module _ {h : History} (κs : Lfts 2) (a : Dens κs frame-kinds.ps) (r : resT fr
     pub code-sure : New ports h port said → held ports h port < sure → r .reply ≡ Recorded
     code-sure m l = as-model ∙ demand3-code c .sure-places port said m l
 
-    pub code-seventh : New ports h port said → held ports h port ≡ most → r .reply ≡ Refused 7
-    code-seventh m l = as-model ∙ demand3-code c .seventh port said m l
+    pub code-seventh-loud : New ports h port said → held ports h port ≡ most → Loud ports h port said → r .reply ≡ Refused 13
+    code-seventh-loud m l o = as-model ∙ demand3-code c .seventh port said m l .0 o
 
-    pub code-taken : New ports h port said → sure ≤ held ports h port → held ports h port < most → CommonTaken ports h → r .reply ≡ Refused 8
-    code-taken m l u t = as-model ∙ demand3-code c .common-places port said m l u .0 t
+    pub code-seventh : New ports h port said → held ports h port ≡ most → ¬ Loud ports h port said → r .reply ≡ Refused 7
+    code-seventh m l o = as-model ∙ demand3-code c .seventh port said m l .1 o
 
-    pub code-untaken : New ports h port said → sure ≤ held ports h port → held ports h port < most → ¬ CommonTaken ports h → r .reply ≡ Recorded
-    code-untaken m l u t = as-model ∙ demand3-code c .common-places port said m l u .1 t
+    module _ (m : New ports h port said) (l : sure ≤ held ports h port) (u : held ports h port < most) where
+      pub code-loud : Loud ports h port said → r .reply ≡ Refused 13
+      code-loud o = as-model ∙ demand3-code c .common-places port said m l u .0 o
+
+      pub code-taken : ¬ Loud ports h port said → CommonTaken ports h → r .reply ≡ Refused 8
+      code-taken o t = as-model ∙ demand3-code c .common-places port said m l u .1 .0 o t
+
+      pub code-untaken : ¬ Loud ports h port said → ¬ CommonTaken ports h → r .reply ≡ Recorded
+      code-untaken o t = as-model ∙ demand3-code c .common-places port said m l u .1 .1 o t
 
     pub code-known : Neighbour ports h (whose port said) → r .reply ≡ pick (eqb (said .seconds) 0) Gone Refreshed
     code-known b = as-model ∙ demand3-code c .known port said b
+
+    pub code-goodbye : port < ports → ¬ Neighbour ports h (whose port said) → said .seconds ≡ 0 → r .reply ≡ UnknownGoodbye
+    code-goodbye l u z = as-model ∙ demand3-code c .goodbye port said l u z
 
 -- `start` was called with a buffer of the right length, as it is after a run: it is done
 pub code-started : (κs : Lfts 1) (a : Dens κs start-kinds.ps) (r : resT start-kinds.r κs .Denot) (x : AtExit (endedOf 1 start-kinds.ps start-kinds.r) κs)

@@ -14,7 +14,7 @@ use Rattle.rules.specs.Events.{Announcement, unread, says, Event, frame, passed
 use Rattle.rules.specs.Shares.{room}
 use Rattle.rules.specs.Answers.{answerTo}
 use Rattle.rules.specs.declared.Room.{Room}
-use Rattle.rules.specs.declared.Room.the-variants.{Enough, Full, Taken}
+use Rattle.rules.specs.declared.Room.the-variants.{Enough, Loud, Full, Taken}
 use Rattle.rules.specs.declared.Reply.{Reply}
 use Rattle.rules.specs.declared.Reply.the-variants.{Recorded, Refreshed, Gone, UnknownGoodbye, Refused}
 use Rattle.rules.proofs.IdentityLaws.{clash, same-true, same-self}
@@ -38,6 +38,7 @@ byTests b g k rm = pick b (answerTo g k rm) (Refused 2)
 refused-stays : (b k : Bool) (rm : Room) (a : Announcement) (old : Option Latest) → ¬ Accepted (byTests b false k rm) → onAnswer (byTests b false k rm) a old ≡ old
 refused-stays true true rm a old h = absurd (h tt)
 refused-stays true false Enough a old h = absurd (h tt)
+refused-stays true false Loud a old h = refl
 refused-stays true false Full a old h = refl
 refused-stays true false Taken a old h = refl
 refused-stays false k rm a old h = refl

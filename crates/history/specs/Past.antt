@@ -7,9 +7,10 @@ use mathlib.Core.Option.{Option, none, some}
 use lib.Dec.{ltb, eqb}
 use Rattle.tally.specs.Tests.{pick, both, either}
 use Rattle.tally.specs.Counts.{one}
+use Rattle.ids.specs.Id.{Id}
 use Rattle.rules.specs.Identity.{Ident, same}
 use Rattle.rules.specs.Events.{Announcement, Heard, unread, says, frame, passed, lost, History, whose}
-use Rattle.rules.specs.Shares.{portIs, room}
+use Rattle.rules.specs.Shares.{portIs, chassisIs, room}
 use Rattle.rules.specs.Answers.{answerTo}
 use Rattle.rules.specs.declared.Reply.{Reply}
 use Rattle.rules.specs.declared.Reply.the-variants.{Recorded, Refreshed, Gone, UnknownGoodbye, Refused}
@@ -97,6 +98,10 @@ countNeighbours n h = countBy (latest n h) (named h)
 -- how many neighbours port q holds after h
 unfoldable pub held : ℕ → History → ℕ → ℕ
 held n h q = countNeighbours n h (portIs q)
+
+-- how many of these are of chassis c (N13)
+unfoldable pub heldOf : ℕ → History → ℕ → Id → ℕ
+heldOf n h q c = countNeighbours n h (chassisIs q c)
 
 -- the answer to what is heard on port p after h
 unfoldable pub answer : ℕ → History → ℕ → Heard → Reply

@@ -1,16 +1,19 @@
 -- The marks of the fitness test: a number of each identity, so that most pairs of records are told apart by it alone.
--- They are for speed; whether a table is fit does not depend on them (N5 d).
-use Prim.Native.Nat.{ℕ, _+_, _-_, _*_, _<_}
+-- They are for speed; whether a table is fit does not depend on them (N5 d, g).
+use Prim.Native.Nat.{ℕ, _+_, _-_, _*_, _/_, _%_, _<_}
 use mathlib.Core.Path.{_≡_}
 use mathlib.Core.Bool.{Bool, true, not}
 use mathlib.Core.List.{List, [], _∷_}
 use lib.ListN.{length, getD}
-use lib.Dec.{ltb, eqb}
-use Rattle.tally.specs.Tests.{pick, all}
+use lib.Dec.{leb, ltb, eqb}
+use Rattle.tally.specs.Tests.{pick, both, all}
 use Rattle.tally.specs.Ranges.{allBelow}
+use Rattle.tally.specs.Counts.{count}
 use Rattle.octets.specs.Numbers.{pairOf}
 use Rattle.whole.specs.Whole.{zeros}
+use Rattle.ids.specs.Id.{Id}
 use Rattle.rules.specs.Identity.{Ident}
+use Rattle.rules.specs.Shares.{perChassis}
 use Rattle.numbers.specs.Sizes.{places}
 use Rattle.place.specs.State.{Place, State, at, used, whoseIn, whoAt}
 use Rattle.marks.specs.PlaceFit.{freeTests, whole, okPlace}
@@ -25,8 +28,12 @@ lastOne l = getD l (length l - 1) 0
 unfoldable pub lastTwo : List ℕ → ℕ
 lastTwo l = pick (ltb (length l) 2) (getD l 0 0) (pairOf (getD l (length l - 2) 0) (getD l (length l - 1) 0))
 
+-- of port and chassis, which is the upper half of the mark of an identity; the remainder keeps the lower half below it
+unfoldable pub chassisMark : ℕ → Id → ℕ
+chassisMark p c = pairOf p (lastOne (c .octets))
+
 unfoldable pub identityMark : Ident → ℕ
-identityMark w = pairOf (w .port) (lastOne (w .chassis .octets)) * 65536 + lastTwo (w .portId .octets)
+identityMark w = chassisMark (w .port) (w .chassis) * 65536 + lastTwo (w .portId .octets) % 65536
 
 abbrev pub markAt : Place → ℕ
 markAt x = pick (used x) (identityMark (whoAt x)) 0
@@ -56,6 +63,18 @@ alike marks i j = eqb (getD marks j 0) (getD marks i 0)
 -- place i, of which n octets are kept, is free, or no place below it has its mark
 unfoldable pub apart : List ℕ → ℕ → ℕ → Bool
 apart marks i n = pick (eqb n 0) true (allBelow (λ j. not (alike marks i j)) i)
+
+-- marks i and j agree in port and last chassis octet; the mark of a free place is 0
+abbrev pub kin : List ℕ → ℕ → ℕ → Bool
+kin marks i j = eqb (getD marks j 0 / 65536) (getD marks i 0 / 65536)
+
+-- place i, of which n octets are kept, is free, or no more marks agree with its own, that one counted, than one chassis may hold
+unfoldable pub few : List ℕ → ℕ → ℕ → Bool
+few marks i n = pick (eqb n 0) true (leb (count (kin marks i) places) perChassis)
+
+-- the marks leave no question of place i
+abbrev pub settled : List ℕ → ℕ → ℕ → Bool
+settled marks i n = both (apart marks i n) (few marks i n)
 
 -- what the pass over all places gives
 pub record Checks (s : State) (m : Marks) : Type 0 where

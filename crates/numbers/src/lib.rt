@@ -18,6 +18,9 @@ const SURE: u8 = 2;
 
 const MOST: u8 = 6;
 
+// The most that one chassis may hold on one port (N13).
+pub const PER_CHASSIS: u8 = 3;
+
 // The source of the frame that a record came in (N3). It is a struct, since a field of a struct cannot be an array of arrays.
 pub struct Sender {
     pub octets: [u8; 6],
@@ -59,11 +62,14 @@ pub fn beyond_sure(t: Table) -> usize
     sum
 }
 
-// What the shares say of a new record on a port (N12, R7, R8).
-pub fn room_of(t: Table, p: usize) -> Room
-    ensures { λ r. ⌜ r ≡ share ports (holds t) p ⌝ }
+// What the shares say of a new record on a port, of a chassis that holds so many there (N12, N13, R13, R7, R8).
+pub fn room_of(t: Table, p: usize, own: u8) -> Room
+    ensures { λ r. ⌜ r ≡ share ports (holds t) own p ⌝ }
 {
     let n = held(t, p);
+    if own == PER_CHASSIS {
+        return Room::Loud;
+    }
     if n < SURE {
         return Room::Enough;
     }

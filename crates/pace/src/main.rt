@@ -15,7 +15,9 @@ use table::frame_on_port;
 // The two octets before the frame, and the frame.
 const INPUT: usize = 53;
 
-// Where the frame's port ID and the low octet of its seconds stand in the input.
+// Where the last octet of the frame's chassis, its port ID and the low octet of its seconds stand in the input.
+const CHASSIS: usize = 24;
+
 const ID: usize = 28;
 
 const SECONDS: usize = 32;
@@ -36,10 +38,11 @@ fn counted(was: usize, reply: Reply) -> usize {
     }
 }
 
-// The neighbour of a place is heard: four neighbours on each port take all places (N12).
+// The neighbour of a place is heard: four neighbours on each port take all places (N12), and the fourth is of a second chassis (N13).
 fn announce(r: Run, buffer: &mut [u8], input: [u8; INPUT], place: usize, seconds: u8) -> Run {
     let t = r.table;
     let mut said = input;
+    said[CHASSIS] = (1 + place % 4 / 3) as u8;
     said[ID] = (place % 4) as u8;
     said[SECONDS] = seconds;
     let frame = text_of(

@@ -3,12 +3,13 @@
 use Prim.Native.Nat.{ℕ, _*_, _≤_, _<_}
 use mathlib.Core.Path.{_≡_, sym, ap}
 use mathlib.Core.Logic.{_≢_}
+use mathlib.Core.Bool.{Bool}
 use mathlib.Core.List.{List, []}
 use borrow.Author.Tests.{eq-eqb, ne-eqb, le-leb, lt-leb, lt-ltb, le-ltb}
 use lib.ListN.{length, take, drop}
-use Rattle.rules.specs.Identity.{Ident}
+use Rattle.rules.specs.Identity.{Ident, same}
 use Rattle.numbers.specs.Sizes.{places}
-use Rattle.place.specs.State.{Place, State, size, octets, at, put, putThere, lldpduAt, lldpduIn, recordIs, isOf}
+use Rattle.place.specs.State.{Place, State, size, octets, at, put, putThere, lldpduAt, lldpduIn, recordPasses, recordIs, isOf, passes}
 
 -- What is kept
 
@@ -26,9 +27,12 @@ module _ (s : State) (k : ℕ) (h : k < places) where
   unfolding at
   there-lldpdu = sym (there-octets (s .buf) k (at s k .len) h)
 
+  pub there-passes : (g : Ident → Bool) → recordPasses (at s k .len) (at s k .port) (lldpduIn (s .buf) k (at s k .len)) g ≡ passes s g k
+  there-passes g = ap (λ (l : List ℕ). recordPasses (at s k .len) (at s k .port) l g) there-lldpdu
+
   pub there-of : (w : Ident) → recordIs (at s k .len) (at s k .port) (lldpduIn (s .buf) k (at s k .len)) w ≡ isOf s w k
   unfolding isOf
-  there-of w = ap (λ (l : List ℕ). recordIs (at s k .len) (at s k .port) l w) there-lldpdu
+  there-of w = there-passes (λ v. same v w)
 
 -- Writing
 

@@ -129,9 +129,12 @@ said sender l = record { chassis = chassisIn l; portId = portIdIn l; seconds = o
 unfoldable pub isFrom : List ℕ → Id → Id → Bool
 isFrom l c i = same (whoseIn 0 l) (ident 0 c i)
 
--- a place with n for a length that was heard on port p and keeps l has a record of w
+-- a place with n for a length that was heard on port p and keeps l has a record whose identity passes g, or that of w
+abbrev pub recordPasses : ℕ → ℕ → List ℕ → (Ident → Bool) → Bool
+recordPasses n p l g = both (not (eqb n 0)) (g (whoseIn p l))
+
 abbrev pub recordIs : ℕ → ℕ → List ℕ → Ident → Bool
-recordIs n p l w = both (not (eqb n 0)) (same (whoseIn p l) w)
+recordIs n p l w = recordPasses n p l (λ v. same v w)
 
 -- place k has a record of w
 unfoldable pub isOf : State → Ident → ℕ → Bool
@@ -141,9 +144,13 @@ isOf s w k = recordIs (at s k .len) (at s k .port) (lldpduAt (at s k)) w
 unfoldable pub find : State → Ident → ℕ
 find s w = firstFrom (isOf s w) 0 places
 
--- how many used places have an identity that passes g
+-- place k has a record whose identity passes g
+abbrev pub passes : State → (Ident → Bool) → ℕ → Bool
+passes s g k = recordPasses (at s k .len) (at s k .port) (lldpduAt (at s k)) g
+
+-- how many of all places do
 unfoldable pub countRecords : State → (Ident → Bool) → ℕ
-countRecords s g = count (λ k. both (used (at s k)) (g (whoAt (at s k)))) places
+countRecords s g = count (passes s g) places
 
 -- all numbers, all senders and all octets 0 (N6)
 abbrev pub empty : State

@@ -1,7 +1,7 @@
 -- What an event does to a fit table: it stays fit, and a frame changes what is found for its own identity alone.
 -- `after` says what that identity then has, by the answer; `tick-keeps` and its like make the laws of `eachRecord` ready for use.
 use Prim.Native.Nat.{ℕ, zero, suc, _-_, _≤_, _<_}
-use mathlib.Core.Path.{_≡_, refl, ap, _∙_}
+use mathlib.Core.Path.{_≡_, refl, sym, ap, _∙_}
 use mathlib.Core.List.{[], _∷_}
 use mathlib.Core.Bool.{Bool, true, false}
 use mathlib.Core.Option.{Option, none, some}
@@ -10,19 +10,20 @@ use borrow.Author.Tests.{ltb-true, lt-ltb, le-ltb, ne-eqb}
 use lib.Dec.{ltb, leb, eqb}
 use lib.ListN.{replicate, length-replicate}
 use Rattle.tally.specs.Tests.{pick}
+use Rattle.tally.specs.Counts.{one}
 use Rattle.tally.proofs.CountsLaws.{sum-same, sum-zero}
 use Rattle.rules.specs.Identity.{Ident, same}
 use Rattle.rules.specs.Events.{Announcement, Heard, unread, says, Event, frame, passed, lost, whose}
-use Rattle.rules.specs.Shares.{sure, placesFor, beyond, portIs, room}
+use Rattle.rules.specs.Shares.{sure, placesFor, beyond, portIs, chassisIs, room}
 use Rattle.rules.specs.declared.Room.{Room}
-use Rattle.rules.specs.declared.Room.the-variants.{Enough, Full, Taken}
+use Rattle.rules.specs.declared.Room.the-variants.{Enough, Loud, Full, Taken}
 use Rattle.rules.specs.Answers.{answerTo}
 use Rattle.rules.specs.declared.Reply.{Reply}
 use Rattle.rules.specs.declared.Reply.the-variants.{Recorded, Refreshed, Gone, UnknownGoodbye, Refused}
-use Rattle.rules.specs.Model.{Rec, Places, isSome, lookup, tally, holdsIn, onRecord, eachRecord, tick, unplug, swap, recorded, act, reply, afterFrame, step, run}
+use Rattle.rules.specs.Model.{Rec, Places, isSome, lookup, hits, tally, holdsIn, holdsOf, onRecord, eachRecord, tick, unplug, swap, recorded, act, reply, afterFrame, step, run}
 use Rattle.rules.specs.Fit.{InAll, Absent, Once, Ports, FitPlaces}
 use Rattle.rules.proofs.IdentityLaws.{same-true, same-self, same-cast, differ-sym}
-use Rattle.rules.proofs.EachLaws.{Of, Keeps, lookup-absent, lookup-of, lookup-each, lookup-enter}
+use Rattle.rules.proofs.EachLaws.{Of, Keeps, lookup-absent, lookup-of, lookup-each, tally-enter, lookup-enter}
 use Rattle.rules.proofs.SharesLaws.{Fits, room-fits, room-free, fit-each, fit-enter}
 
 -- The three changes of a record by itself
@@ -57,6 +58,18 @@ swap-miss : (w v : Ident) (x y : Option Rec) → Of w y → same v w ≡ false �
 unfolding swap
 swap-miss w v x none o e = refl
 swap-miss w v x (some r) o e = rw (same-cast (r .who) w v o, e)
+
+-- a test that w fails counts the others alone
+tally-swap : (g : Ident → Bool) (w : Ident) → g w ≡ false → (x : Option Rec) → Of w x → (t : Places) → tally g (eachRecord (swap w x) t) ≡ tally g t
+unfolding swap
+tally-swap g w e x o [] = refl
+tally-swap g w e x o (none ∷ t) = omega (arith, tally-swap g w e x o t)
+tally-swap g w e x o (some r ∷ t) = omega (arith, hit (same w (r .who)) refl x o, tally-swap g w e x o t)
+  where
+    hit : (b : Bool) → same w (r .who) ≡ b → (y : Option Rec) → Of w y → hits g (pick b y (some r)) ≡ one (g (r .who))
+    hit true d none z = sym (rw (← same-true w (r .who) d, e))
+    hit true d (some y) z = ap (λ (v : Ident). one (g v)) (z ∙ same-true w (r .who) d)
+    hit false d y z = refl
 
 -- a port that there is not has no record to lose
 pub unplug-none : (n q : ℕ) (t : Places) → Ports n t → n ≤ q → eachRecord (unplug q) t ≡ t
@@ -101,20 +114,33 @@ module _ (n : ℕ) (t : Places) (f : FitPlaces n t) (p : ℕ) (a : Announcement)
       go true e = rw (same-true w v e)
       go false e = refl
 
-  -- the answer x leads from t to a fit table, and changes what v has alone
-  abbrev Right : Reply → Type 0
-  Right x = FitPlaces n (act x rec t) × ((w : Ident) → lookup w (act x rec t) ≡ pick (same w v) (after x rec (lookup v t)) (lookup w t))
+  -- the answer x leads from t to a fit table, and changes what v has alone; so a test that v fails counts as before
+  record Right (x : Reply) : Type 0 where
+    fit : FitPlaces n (act x rec t)
+    found : (w : Ident) → lookup w (act x rec t) ≡ pick (same w v) (after x rec (lookup v t)) (lookup w t)
+    counted : (g : Ident → Bool) → g v ≡ false → tally g (act x rec t) ≡ tally g t
+
+  stays : (x : Reply) → act x rec t ≡ t → after x rec (lookup v t) ≡ lookup v t → Right x
+  stays x e d = record { fit = rw e f; found = λ w. rw (e, d) (unmoved w); counted = λ g h. ap (tally g) e }
 
   acts : p < n → (g k : Bool) → isSome (lookup v t) ≡ k → (rm : Room) → room n (λ g. tally g t) v ≡ rm → Right (answerTo g k rm)
-  acts l true true d rm m = (fit-each (swap v none) (swap-keeps v none tt) n t f, swapped none tt d)
-  acts l true false d rm m = (f, unmoved)
-  acts l false true d rm m = (fit-each (swap v (some rec)) (swap-keeps v (some rec) refl) n t f, swapped (some rec) refl d)
+  acts l true true d rm m =
+      record { fit = fit-each (swap v none) (swap-keeps v none tt) n t f; found = swapped none tt d; counted = λ g e. tally-swap g v e none tt t }
+  acts l true false d rm m = stays UnknownGoodbye refl refl
+  acts l false true d rm m =
+      record {
+        fit = fit-each (swap v (some rec)) (swap-keeps v (some rec) refl) n t f;
+        found = swapped (some rec) refl d;
+        counted = λ g e. tally-swap g v e (some rec) refl t;
+      }
   acts l false false d Enough m =
-      let k : Fits n (holdsIn t) p = room-fits n (λ g. tally g t) v m in
+      let k : Fits n (holdsIn t) (holdsOf t p (v .chassis)) p = room-fits n (λ g. tally g t) v m in
       let o : Absent v t = lookup-absent v t (is-none (lookup v t) d) in
-      (fit-enter rec n t f l k o, λ w. lookup-enter rec w t (room-free n t p f l k) o)
-  acts l false false d Full m = (f, unmoved)
-  acts l false false d Taken m = (f, unmoved)
+      let free = room-free n t (holdsOf t p (v .chassis)) p f l k in
+      record { fit = fit-enter rec n t f l k o; found = λ w. lookup-enter rec w t free o; counted = λ g e. omega (arith, rw e at (tally-enter rec g t free)) }
+  acts l false false d Loud m = stays (Refused 13) refl refl
+  acts l false false d Full m = stays (Refused 7) refl refl
+  acts l false false d Taken m = stays (Refused 8) refl refl
 
   frames : Right (reply n p (says a) t)
   unfolding reply
@@ -122,20 +148,25 @@ module _ (n : ℕ) (t : Places) (f : FitPlaces n t) (p : ℕ) (a : Announcement)
     where
       go : (b : Bool) → ltb p n ≡ b → Right (pick b (answerTo (eqb (a .seconds) 0) (isSome (lookup v t)) (room n (λ g. tally g t) v)) (Refused 2))
       go true e = acts (ltb-true p n e) (eqb (a .seconds) 0) (isSome (lookup v t)) refl (room n (λ g. tally g t) v) refl
-      go false e = (f, unmoved)
+      go false e = stays (Refused 2) refl refl
 
 module _ (n : ℕ) (t : Places) (f : FitPlaces n t) where
   pub frame-fit : (p : ℕ) (x : Heard) → FitPlaces n (afterFrame n p x t)
   unfolding afterFrame
   frame-fit p (unread k) = f
-  frame-fit p (says a) = frames n t f p a .0
+  frame-fit p (says a) = frames n t f p a .fit
 
   -- a frame changes what is found for its own identity, by its answer, and nothing else
   pub frame-lookup : (p : ℕ) (a : Announcement) (w : Ident)
       → lookup w (afterFrame n p (says a) t)
       ≡ pick (same w (whose p a)) (after (reply n p (says a) t) (recorded p a) (lookup (whose p a) t)) (lookup w t)
   unfolding afterFrame
-  frame-lookup p a w = frames n t f p a .1 w
+  frame-lookup p a w = frames n t f p a .found w
+
+  -- and so a test that its identity fails counts as before
+  pub frame-tally : (p : ℕ) (a : Announcement) (g : Ident → Bool) → g (whose p a) ≡ false → tally g (afterFrame n p (says a) t) ≡ tally g t
+  unfolding afterFrame
+  frame-tally p a g e = frames n t f p a .counted g e
 
   -- every event keeps a fit table fit
   pub step-fit : (e : Event) → FitPlaces n (step n e t)
@@ -168,6 +199,7 @@ start-fit n =
       ports = none-in (λ v. v .port < n) (placesFor n);
       six = λ q. omega (arith, held q);
       common = omega (arith, sum-same (λ q. holdsIn (run n []) q - sure) (λ q. 0) n (λ q l. omega (arith, held q)), sum-zero n);
+      three = λ q c. omega (arith, none-tally (chassisIs q c) (placesFor n));
     }
 
 -- A frame by what is known of it: the form in which a table that finds a place by a loop has it

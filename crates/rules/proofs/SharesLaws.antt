@@ -7,18 +7,42 @@ use mathlib.Core.Bool.{Bool, true, false}
 use mathlib.Core.Logic.{_≢_}
 use mathlib.Core.Option.{Option, none, some}
 use native.Mathlib.Omega.{arith}
-use borrow.Author.Tests.{eqb-true, eqb-false, ne-eqb, ltb-true, ltb-false}
+use borrow.Author.Tests.{eqb-true, eqb-false, eq-eqb, ne-eqb, ltb-true, ltb-false, lt-ltb, le-ltb}
 use lib.Dec.{ltb, eqb}
 use lib.ListN.{length}
-use Rattle.tally.specs.Tests.{pick}
+use Rattle.tally.specs.Tests.{pick, both}
 use Rattle.tally.specs.Counts.{one, sum}
+use Rattle.tally.proofs.TestsLaws.{both-true, both-hold}
 use Rattle.tally.proofs.CountsLaws.{sum-same, sum-le, sum-add, sum-zero, sum-one}
+use Rattle.ids.specs.Id.{Id, sameId}
+use Rattle.ids.proofs.IdLaws.{same-id-true, same-id-self}
 use Rattle.rules.specs.Identity.{Ident}
-use Rattle.rules.specs.Shares.{sure, most, commonFor, beyond, share, portIs, room}
-use Rattle.rules.specs.declared.Room.the-variants.{Enough, Full, Taken}
-use Rattle.rules.specs.Model.{Rec, Places, tally, holdsIn, enter, eachRecord}
+use Rattle.rules.specs.Shares.{sure, most, perChassis, commonFor, beyond, share, portIs, chassisIs, room}
+use Rattle.rules.specs.declared.Room.the-variants.{Enough, Loud, Full, Taken}
+use Rattle.rules.specs.Model.{Rec, Places, tally, holdsIn, holdsOf, enter, eachRecord}
 use Rattle.rules.specs.Fit.{Absent, Ports, FitPlaces}
 use Rattle.rules.proofs.EachLaws.{Keeps, Free, in-each, once-each, length-each, tally-each, in-enter, once-enter, length-enter, tally-enter}
+
+-- Who is counted for a chassis
+
+pub chassis-true : (q : ℕ) (c : Id) (w : Ident) → chassisIs q c w ≡ true → (w .port ≡ q) × (w .chassis ≡ c)
+chassis-true q c w e =
+    let h = both-true (portIs q w) (sameId (w .chassis) c) e in
+    (eqb-true (w .port) q (h .0), same-id-true (w .chassis) c (h .1))
+
+pub chassis-is : (q : ℕ) (c : Id) (w : Ident) → w .port ≡ q → w .chassis ≡ c → chassisIs q c w ≡ true
+chassis-is q c w e d = both-hold (eq-eqb (w .port) q e) (rw d (same-id-self c))
+
+-- a chassis with three means a port with three
+pub chassis-port : (t : Places) (q : ℕ) (c : Id) → holdsOf t q c ≤ holdsIn t q
+chassis-port [] q c = omega arith
+chassis-port (none ∷ t) q c = omega (arith, chassis-port t q c)
+chassis-port (some r ∷ t) q c = omega (arith, fewer (portIs q (r .who)) (sameId (r .who .chassis) c), chassis-port t q c)
+  where
+    fewer : (a b : Bool) → one (both a b) ≤ one a
+    fewer true true = omega arith
+    fewer true false = omega arith
+    fewer false b = omega arith
 
 -- Numbers by port
 
@@ -44,25 +68,54 @@ shares-lt n p f l k =
     let still = sum-same (λ q. one (eqb p q) + f q - sure) (λ q. f q - sure) n (λ q m. still-sure f p q k) in
     omega (arith, more, still, sum-add (λ q. one (eqb p q)) f n, sum-one p n l)
 
+-- The room, line by line
+module _ (n : ℕ) (f : ℕ → ℕ) (own p : ℕ) where
+  pub share-loud : own ≡ perChassis → share n f own p ≡ Loud
+  unfolding share
+  share-loud o = rw (eq-eqb own perChassis o)
+
+  module _ (o : own ≢ perChassis) where
+    pub share-sure : f p < sure → share n f own p ≡ Enough
+    unfolding share
+    share-sure l = rw (ne-eqb own perChassis o, lt-ltb (f p) sure l)
+
+    pub share-full : f p ≡ most → share n f own p ≡ Full
+    unfolding share
+    share-full e = rw (ne-eqb own perChassis o, le-ltb (f p) sure (omega arith), eq-eqb (f p) most e)
+
+    pub share-taken : sure ≤ f p → f p ≢ most → beyond n f ≡ commonFor n → share n f own p ≡ Taken
+    unfolding share
+    share-taken l m e = rw (ne-eqb own perChassis o, le-ltb (f p) sure l, ne-eqb (f p) most m, eq-eqb (beyond n f) (commonFor n) e)
+
+    pub share-left : sure ≤ f p → f p ≢ most → beyond n f ≢ commonFor n → share n f own p ≡ Enough
+    unfolding share
+    share-left l m e = rw (ne-eqb own perChassis o, le-ltb (f p) sure l, ne-eqb (f p) most m, ne-eqb (beyond n f) (commonFor n) e)
+
 -- what the room rule says where it lets a new one in
-pub record Fits (n : ℕ) (f : ℕ → ℕ) (p : ℕ) : Type 0 where
+pub record Fits (n : ℕ) (f : ℕ → ℕ) (own p : ℕ) : Type 0 where
+  pub three : own ≢ perChassis
   pub six : f p ≢ most
   pub common : sure ≤ f p → beyond n f ≢ commonFor n
 
-pub share-fits : (n : ℕ) (f : ℕ → ℕ) (p : ℕ) → share n f p ≡ Enough → Fits n f p
+pub share-fits : (n : ℕ) (f : ℕ → ℕ) (own p : ℕ) → share n f own p ≡ Enough → Fits n f own p
 unfolding share
-share-fits n f p e = go (ltb (f p) sure) refl (eqb (f p) most) refl (eqb (beyond n f) (commonFor n)) refl e
+share-fits n f own p e = go (eqb own perChassis) refl (ltb (f p) sure) refl (eqb (f p) most) refl (eqb (beyond n f) (commonFor n)) refl e
   where
-    go : (a : Bool) → ltb (f p) sure ≡ a → (b : Bool) → eqb (f p) most ≡ b → (c : Bool) → eqb (beyond n f) (commonFor n) ≡ c
-        → pick a Enough (pick b Full (pick c Taken Enough)) ≡ Enough → Fits n f p
-    go true d b x c y z = let l : f p < sure = ltb-true (f p) sure d in record { six = omega arith; common = λ m. absurd (omega arith) }
-    go false d true x c y z = absurd (let w : _≡_ {A = ℕ} 0 1 = cc in omega arith)
-    go false d false x true y z = absurd (let w : _≡_ {A = ℕ} 0 1 = cc in omega arith)
-    go false d false x false y z = record { six = eqb-false (f p) most x; common = λ m. eqb-false (beyond n f) (commonFor n) y }
+    go : (l : Bool) → eqb own perChassis ≡ l → (a : Bool) → ltb (f p) sure ≡ a → (b : Bool) → eqb (f p) most ≡ b → (c : Bool) → eqb (beyond n f) (commonFor n) ≡ c
+        → pick l Loud (pick a Enough (pick b Full (pick c Taken Enough))) ≡ Enough → Fits n f own p
+    go true q a d b x c y z = absurd (let w : _≡_ {A = ℕ} 0 1 = cc in omega arith)
+    go false q true d b x c y z =
+        let l : f p < sure = ltb-true (f p) sure d in
+        record { three = eqb-false own perChassis q; six = omega arith; common = λ m. absurd (omega arith) }
+    go false q false d true x c y z = absurd (let w : _≡_ {A = ℕ} 0 1 = cc in omega arith)
+    go false q false d false x true y z = absurd (let w : _≡_ {A = ℕ} 0 1 = cc in omega arith)
+    go false q false d false x false y z =
+        record { three = eqb-false own perChassis q; six = eqb-false (f p) most x; common = λ m. eqb-false (beyond n f) (commonFor n) y }
 
-pub room-fits : (n : ℕ) (number : (Ident → Bool) → ℕ) (w : Ident) → room n number w ≡ Enough → Fits n (λ q. number (portIs q)) (w .port)
+pub room-fits : (n : ℕ) (number : (Ident → Bool) → ℕ) (w : Ident) → room n number w ≡ Enough
+    → Fits n (λ q. number (portIs q)) (number (chassisIs (w .port) (w .chassis))) (w .port)
 unfolding room
-room-fits n number w e = share-fits n (λ q. number (portIs q)) (w .port) e
+room-fits n number w e = share-fits n (λ q. number (portIs q)) (number (chassisIs (w .port) (w .chassis))) (w .port) e
 
 -- Places that are used, and free ones
 
@@ -89,8 +142,8 @@ ports-none n q (some r ∷ t) h l = rw (ne-eqb (r .who .port) q (omega (arith, h
 -- Fit tables
 
 -- room means a free place
-pub room-free : (n : ℕ) (t : Places) (p : ℕ) → FitPlaces n t → p < n → Fits n (holdsIn t) p → Free t
-room-free n t p f l k = free t (go (ltb (holdsIn t p) sure) refl)
+pub room-free : (n : ℕ) (t : Places) (own p : ℕ) → FitPlaces n t → p < n → Fits n (holdsIn t) own p → Free t
+room-free n t own p f l k = free t (go (ltb (holdsIn t p) sure) refl)
   where
     go : (b : Bool) → ltb (holdsIn t p) sure ≡ b → used t < length t
     go true e = omega (arith, f .size, f .common, used-sum n t (f .ports), shares-lt n p (holdsIn t) l (ltb-true (holdsIn t p) sure e))
@@ -105,18 +158,23 @@ fit-each f k n t h =
       ports = in-each f k (λ v. v .port < n) t (h .ports);
       six = λ q. omega (arith, fewer q, h .six q);
       common = omega (arith, h .common, sum-le (λ q. holdsIn (eachRecord f t) q - sure) (λ q. holdsIn t q - sure) n (λ q m. omega (arith, fewer q)));
+      three = λ q c. omega (arith, tally-each f k (chassisIs q c) t, h .three q c);
     }
   where
     fewer : (q : ℕ) → holdsIn (eachRecord f t) q ≤ holdsIn t q
     fewer q = tally-each f k (portIs q) t
 
 -- a record of a new identity, where the shares have room for it
-module _ (r : Rec) (n : ℕ) (t : Places) (h : FitPlaces n t) (l : r .who .port < n) (k : Fits n (holdsIn t) (r .who .port)) where
+module _ (r : Rec) (n : ℕ) (t : Places) (h : FitPlaces n t) (l : r .who .port < n)
+    (k : Fits n (holdsIn t) (holdsOf t (r .who .port) (r .who .chassis)) (r .who .port)) where
   abbrev p : ℕ
   p = r .who .port
 
+  found-free : Free t
+  found-free = room-free n t (holdsOf t p (r .who .chassis)) p h l k
+
   rises : (q : ℕ) → holdsIn (enter r t) q ≡ one (eqb p q) + holdsIn t q
-  rises q = tally-enter r (portIs q) t (room-free n t p h l k)
+  rises q = tally-enter r (portIs q) t found-free
 
   six-enter : (q : ℕ) → holdsIn (enter r t) q ≤ most
   six-enter q = go (eqb p q) refl
@@ -141,6 +199,19 @@ module _ (r : Rec) (n : ℕ) (t : Places) (h : FitPlaces n t) (l : r .who .port 
           let m = sum-le (λ q. holdsIn (enter r t) q - sure) (λ q. one (eqb p q) + (holdsIn t q - sure)) n (λ q m. omega (arith, rises q)) in
           omega (arith, h .common, m, sum-add (λ q. one (eqb p q)) (λ q. holdsIn t q - sure) n, sum-one p n l)
 
+  three-enter : (q : ℕ) (c : Id) → holdsOf (enter r t) q c ≤ perChassis
+  three-enter q c = go (chassisIs q c (r .who)) refl
+    where
+      more : holdsOf (enter r t) q c ≡ one (chassisIs q c (r .who)) + holdsOf t q c
+      more = tally-enter r (chassisIs q c) t found-free
+
+      go : (b : Bool) → chassisIs q c (r .who) ≡ b → holdsOf (enter r t) q c ≤ perChassis
+      go true e =
+          let z = chassis-true q c (r .who) e in
+          let d : holdsOf t q c ≢ perChassis = rw (z .0, z .1) at (k .three) in
+          omega (arith, rw e at more, h .three q c)
+      go false e = omega (arith, rw e at more, h .three q c)
+
   pub fit-enter : Absent (r .who) t → FitPlaces n (enter r t)
   fit-enter a =
       record {
@@ -149,4 +220,5 @@ module _ (r : Rec) (n : ℕ) (t : Places) (h : FitPlaces n t) (l : r .who .port 
         ports = in-enter r (λ v. v .port < n) l t (h .ports);
         six = six-enter;
         common = common-enter;
+        three = three-enter;
       }

@@ -3,7 +3,7 @@
 use Prim.Native.Nat.{ℕ}
 use mathlib.Core.Bool.{Bool, true, false}
 use Rattle.rules.specs.declared.Room.{Room}
-use Rattle.rules.specs.declared.Room.the-variants.{Enough, Full, Taken}
+use Rattle.rules.specs.declared.Room.the-variants.{Enough, Loud, Full, Taken}
 use Rattle.rules.specs.declared.Reply.{Reply}
 use Rattle.rules.specs.declared.Reply.the-variants.{Recorded, Refreshed, Gone, UnknownGoodbye, Refused}
 
@@ -15,9 +15,10 @@ refusalOfReply Gone = 0
 refusalOfReply UnknownGoodbye = 0
 refusalOfReply (Refused n) = n
 
--- R7 and R8
+-- R13, R7 and R8
 abbrev pub onRoom : Room → Reply
 onRoom Enough = Recorded
+onRoom Loud = Refused 13
 onRoom Full = Refused 7
 onRoom Taken = Refused 8
 

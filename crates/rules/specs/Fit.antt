@@ -6,9 +6,10 @@ use mathlib.Core.List.{[], _∷_}
 use mathlib.Core.Bool.{false}
 use mathlib.Core.Option.{Option, none, some}
 use lib.ListN.{length}
+use Rattle.ids.specs.Id.{Id}
 use Rattle.rules.specs.Identity.{Ident, same}
-use Rattle.rules.specs.Shares.{most, commonFor, placesFor, beyond}
-use Rattle.rules.specs.Model.{Rec, Places, holdsIn}
+use Rattle.rules.specs.Shares.{most, perChassis, commonFor, placesFor, beyond}
+use Rattle.rules.specs.Model.{Rec, Places, holdsIn, holdsOf}
 
 -- P of the identity in a place, where the place has a record
 abbrev pub InPlace : (Ident → Type 0) → Option Rec → Type 0
@@ -33,10 +34,11 @@ Once (x ∷ t) = InPlace (λ v. Absent v t) x × Once t
 abbrev pub Ports : ℕ → Places → Type 0
 Ports n t = InAll (λ v. v .port < n) t
 
--- N5 with n ports: (d) is `once`, (e) is `six`, (f) is `common`
+-- N5 with n ports: (d) is `once`, (e) is `six`, (f) is `common`, (g) is `three`
 pub record FitPlaces (n : ℕ) (t : Places) : Type 0 where
   pub size : length t ≡ placesFor n
   pub once : Once t
   pub ports : Ports n t
   pub six : (q : ℕ) → holdsIn t q ≤ most
   pub common : beyond n (holdsIn t) ≤ commonFor n
+  pub three : (q : ℕ) (c : Id) → holdsOf t q c ≤ perChassis

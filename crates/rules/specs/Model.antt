@@ -8,9 +8,10 @@ use lib.Dec.{ltb, leb, eqb}
 use lib.ListN.{replicate}
 use Rattle.tally.specs.Tests.{pick}
 use Rattle.tally.specs.Counts.{one}
+use Rattle.ids.specs.Id.{Id}
 use Rattle.rules.specs.Identity.{Ident, same}
 use Rattle.rules.specs.Events.{Announcement, Heard, unread, says, Event, frame, passed, lost, History, whose}
-use Rattle.rules.specs.Shares.{placesFor, portIs, room}
+use Rattle.rules.specs.Shares.{placesFor, portIs, chassisIs, room}
 use Rattle.rules.specs.Answers.{answerTo}
 use Rattle.rules.specs.declared.Reply.{Reply}
 use Rattle.rules.specs.declared.Reply.the-variants.{Recorded, Refreshed, Gone, UnknownGoodbye, Refused}
@@ -46,6 +47,10 @@ tally g (x ∷ t) = hits g x + tally g t
 -- how many a port holds (N10)
 abbrev pub holdsIn : Places → ℕ → ℕ
 holdsIn t q = tally (portIs q) t
+
+-- how many of these are of chassis c (N13)
+abbrev pub holdsOf : Places → ℕ → Id → ℕ
+holdsOf t q c = tally (chassisIs q c) t
 
 -- into the lowest free place (N4)
 abbrev pub enter : Rec → Places → Places

@@ -10,9 +10,10 @@ pub enum Reply {
     Refused(u8),
 }
 
-// What the shares say of a new record (N12): there is room, the port is full (R7), or the common places are taken (R8).
+// What the shares say of a new record (N12, N13): there is room, its chassis is loud (R13), the port is full (R7), or the common places are taken (R8).
 pub enum Room {
     Enough,
+    Loud,
     Full,
     Taken,
 }

@@ -16,20 +16,23 @@ use table::who_sees;
 // The octet, the address and the longest frame.
 const INPUT: usize = 1521;
 
-// Where the frame begins in the input, and where its port ID stands.
+// Where the frame begins in the input, and where the last octet of its chassis and its port ID stand.
 const FRAME: usize = 7;
+
+const CHASSIS: usize = 29;
 
 const ID: usize = 33;
 
-fn put_id(input: &mut [u8], place: usize) {
+fn put_ids(input: &mut [u8], place: usize) {
     if input.len() > ID {
+        input[CHASSIS] = (1 + place % 4 / 3) as u8;
         input[ID] = (place % 4) as u8;
     }
 }
 
-// The neighbour of a place is heard: four neighbours on each port take all places (N12).
+// The neighbour of a place is heard: four neighbours on each port take all places (N12), and the fourth is of a second chassis (N13).
 fn announce(t: Table, buffer: &mut [u8], input: &mut [u8], place: usize) -> Table {
-    put_id(input, place);
+    put_ids(input, place);
     let frame = text_of(
         input,
         Part {

@@ -23,10 +23,10 @@ use Rattle.reader.specs.Frame as reader
 use Rattle.reader.proofs.FrameLaws.{frame-size, frame-station, on-good, on-bad}
 use Rattle.rules.specs.Identity.{Ident, same}
 use Rattle.rules.specs.Events.{Announcement, Heard, says, whose}
-use Rattle.rules.specs.Shares.{share, room}
+use Rattle.rules.specs.Shares.{chassisIs, room}
 use Rattle.rules.specs.Answers.{answerTo}
 use Rattle.rules.specs.declared.Room.{Room}
-use Rattle.rules.specs.declared.Room.the-variants.{Enough, Full, Taken}
+use Rattle.rules.specs.declared.Room.the-variants.{Enough, Loud, Full, Taken}
 use Rattle.rules.specs.declared.Reply.{Reply}
 use Rattle.rules.specs.declared.Reply.the-variants.{Recorded, Refreshed, Gone, UnknownGoodbye, Refused}
 use Rattle.rules.specs.Model as model
@@ -38,15 +38,16 @@ use Rattle.rules.proofs.FrameLaws.{no-reply, no-frame, unread-reply, unread-fra
 use Rattle.rules.proofs.PlacesLaws.{enter-set, swap-set, lookup-at}
 use Rattle.rules.proofs.TabLaws.{in-tab}
 use Rattle.numbers.specs.Sizes.{ports, places}
-use Rattle.numbers.specs.Numbers.{isFree, holds, firstFree}
+use Rattle.numbers.specs.Numbers.{isFree, firstFree}
 use Rattle.place.specs.State.{Place, State, Sized, size, at, put, used, free, said, whoAt, isOf, find, countRecords}
 use Rattle.marks.specs.PlaceFit.{okPlace}
 use Rattle.fitness.specs.Fit.{fit, Fit}
 use Rattle.hearing.specs.Frame.{extentOn, heardIn, heardOf, Told, telling, stateTold, kept, heardAt, heardByRoom, heardNew, heardSaying, onHeard, heard}
 use Rattle.fitness.specs.View.{recOf, placeOf, view}
 use Rattle.place.proofs.PutLaws.{put-sized}
-use Rattle.fitness.proofs.ViewLaws.{place-free, place-used, Seen, seen, placed, getD-view, view-long, count-view, count-holds, view-fits}
+use Rattle.fitness.proofs.ViewLaws.{place-free, place-used, Seen, seen, placed, getD-view, view-long, count-view, view-fits}
 use Rattle.fitness.proofs.FitLaws.{parts-fit, room-for}
+use Rattle.hearing.proofs.ReplyLaws.{room-share}
 use Rattle.fitness.proofs.KeepLaws.{kept-long, kept-extent, free-ok, free-long, keep-long}
 use Rattle.fitness.proofs.WrittenLaws.{Good, Spoken, keep-place, keep-good, put-view, put-good}
 
@@ -106,16 +107,12 @@ module _ (s : State) (z : Sized places s) (f : Fit s) (p : ℕ) (low : p < ports
         good = put-good s z k l y long ok (f .good);
       }
 
-  -- the room by the table's own count is the room by the model's, and by the numbers alone
+  -- the room by the table's own count is the room by the model's
   abbrev there : Room
   there = room ports (countRecords s) w
 
   room-seen : there ≡ room ports (λ g. tally g (view s)) w
   room-seen = ap (λ (h : (Ident → Bool) → ℕ). room ports h w) (fun-ext (count-view s))
-
-  room-share : there ≡ share ports (holds (s .table)) p
-  unfolding room
-  room-share = ap (λ (h : ℕ → ℕ). share ports h p) (fun-ext (count-holds s))
 
   -- the model's side: a goodbye or not, known or not, and the room
   module _ (b : Bool) (e : eqb (a .seconds) 0 ≡ b) (k : Bool) (i : isSome (lookup w (view s)) ≡ k) (rm : Room) (m : there ≡ rm) where
@@ -197,10 +194,11 @@ module _ (s : State) (z : Sized places s) (f : Fit s) (p : ℕ) (low : p < ports
     new-right = zero-or (eqb (a .seconds) 0) refl
       where
         go : eqb (a .seconds) 0 ≡ false → (rm : Room) → there ≡ rm → answers (heardByRoom rm (kept p a) s)
+        go e Loud m = stays (Refused 13) (told false e false new Loud m) (gives false e false new Loud m)
         go e Full m = stays (Refused 7) (told false e false new Full m) (gives false e false new Full m)
         go e Taken m = stays (Refused 8) (told false e false new Taken m) (gives false e false new Taken m)
         go e Enough m =
-            let h = room-for s (parts-fit s f) p low (sym room-share ∙ m) in
+            let h = room-for s (parts-fit s f) (countRecords s (chassisIs p (a .chassis))) p low (sym (room-share s w) ∙ m) in
             writes Recorded (firstFree (s .table)) h (kept p a) (keep-long p (a .seconds) (a .sender) (a .octets)) (keep-good p a c low (eqb-false (a .seconds) 0 e))
             (told false e false new Enough m)
             (gives false e false new Enough m ∙ taken h ∙ ap (set (view s) (firstFree (s .table))) (sym (keep-place p a c)))

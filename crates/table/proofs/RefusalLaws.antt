@@ -15,7 +15,7 @@ use Rattle.reader.proofs.FrameLaws.{source-fails, on-bad}
 use Rattle.rules.specs.Events.{Announcement, Heard, unread, says, whose}
 use Rattle.rules.specs.Shares.{room}
 use Rattle.rules.specs.declared.Room.{Room}
-use Rattle.rules.specs.declared.Room.the-variants.{Enough, Full, Taken}
+use Rattle.rules.specs.declared.Room.the-variants.{Enough, Loud, Full, Taken}
 use Rattle.rules.specs.declared.Reply.{Reply}
 use Rattle.rules.specs.declared.Reply.the-variants as reply
 use Rattle.numbers.specs.Sizes.{ports, places}
@@ -79,6 +79,7 @@ module _ (s : State) where
       go false j e = let z : _≡_ {A = ℕ} 0 1 = cc in absurd (omega arith)
 
   room-unchanged : (r : Room) (x : Place) → Untold (heardByRoom r x s)
+  room-unchanged Loud x = stays (reply.Refused 13)
   room-unchanged Full x = stays (reply.Refused 7)
   room-unchanged Taken x = stays (reply.Refused 8)
   room-unchanged Enough x = λ j e. let z : _≡_ {A = ℕ} 0 1 = cc in absurd (omega arith)

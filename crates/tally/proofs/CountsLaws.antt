@@ -3,7 +3,7 @@
 use Prim.Native.Nat.{ℕ, zero, suc, _+_, _-_, _≤_, _<_}
 use mathlib.Core.Path.{_≡_, refl, sym, ap, _∙_}
 use mathlib.Core.Bool.{Bool, true, false}
-use mathlib.Core.Logic.{⊎-elim}
+use mathlib.Core.Logic.{_⊎_, inl, inr, ⊎-elim}
 use native.Mathlib.Nat.{eq-or-lt-of-le}
 use native.Mathlib.Numerals.{add-one}
 use native.Mathlib.Omega.{arith}
@@ -30,6 +30,27 @@ pub count-le : (f : ℕ → Bool) (n : ℕ) → count f n ≤ n
 unfolding count
 count-le f zero = omega arith
 count-le f (suc n) = omega (arith, count-le f n, one-le (f n))
+
+-- where each that passes f passes g too, no more pass f
+pub count-fewer : (f g : ℕ → Bool) (n : ℕ) → ((k : ℕ) → k < n → f k ≡ true → g k ≡ true) → count f n ≤ count g n
+unfolding count
+count-fewer f g zero h = omega arith
+count-fewer f g (suc n) h = go (f n) refl (count-fewer f g n (λ k l. h k (omega arith)))
+  where
+    go : (b : Bool) → f n ≡ b → count f n ≤ count g n → count f n + one b ≤ count g n + one (g n)
+    go true e ih = rw (h n (omega arith) e) (omega (arith, ih))
+    go false e ih = omega (arith, ih)
+
+-- none passes, or there is one that does
+pub count-some : (f : ℕ → Bool) (n : ℕ) → (count f n ≡ 0) ⊎ ((k : ℕ) × ((k < n) × (f k ≡ true)))
+unfolding count
+count-some f zero = inl refl
+count-some f (suc n) = go (f n) refl (count-some f n)
+  where
+    go : (b : Bool) → f n ≡ b → (count f n ≡ 0) ⊎ ((k : ℕ) × ((k < n) × (f k ≡ true))) → (count f n + one b ≡ 0) ⊎ ((k : ℕ) × ((k < suc n) × (f k ≡ true)))
+    go true e ih = inr (n, (omega arith, e))
+    go false e (inl z) = inl (omega (arith, z))
+    go false e (inr x) = inr (x .0, (omega (arith, x .1 .0), x .1 .1))
 
 pub count-same : (f g : ℕ → Bool) (n : ℕ) → ((k : ℕ) → k < n → f k ≡ g k) → count f n ≡ count g n
 unfolding count

@@ -7,6 +7,9 @@ use crate::frames::blocks::*;
 use crate::id::Id;
 use crate::reader::Address;
 
+/// The address of frame A.
+pub const SIX: Address = [0x02, 0x00, 0x00, 0x00, 0x00, 0x01];
+
 impl Maker {
     pub fn chassis(&mut self) {
         self.call(Event::Start);
@@ -61,9 +64,8 @@ impl Maker {
     }
 }
 
-/// Agents that are much like each other, at most six in a crowd.
-fn crowds() -> [Vec<Agent>; 5] {
-    let six: Address = [0x02, 0x00, 0x00, 0x00, 0x00, 0x01];
+/// Chassis of which each is much like the others beside it.
+pub fn much_alike() -> [[Id; 6]; 3] {
     // The octets of addresses are characters themselves: the subtype alone differs, or the number.
     let subtypes = [
         address(b"ABCDEF"),
@@ -75,12 +77,12 @@ fn crowds() -> [Vec<Agent>; 5] {
     ];
     // An address, the characters that spell it, and longer addresses that begin or end with it.
     let spelled = [
-        address(&six),
+        address(&SIX),
         local(b"020000000001"),
-        address(&[&six[..], &[0, 0]].concat()),
+        address(&[&SIX[..], &[0, 0]].concat()),
         local(b"0200000000010000"),
-        address(&[&[0, 0], &six[..]].concat()),
-        address(&[&six[..], &[0, 1]].concat()),
+        address(&[&[0, 0], &SIX[..]].concat()),
+        address(&[&SIX[..], &[0, 1]].concat()),
     ];
     // Characters that begin alike, or that differ far behind.
     let [mut middle, mut last] = [characters(64), characters(64)];
@@ -94,6 +96,11 @@ fn crowds() -> [Vec<Agent>; 5] {
         local(&characters(32)),
         local(&characters(2)),
     ];
+    [subtypes, spelled, long]
+}
+
+/// Agents that are much like each other, at most six in a crowd.
+fn crowds() -> [Vec<Agent>; 5] {
     // What the chassis has more, the port ID has fewer; and each has the subtype of the other.
     let pairs = [
         (local(b"AA"), (7, &b"AAAA"[..])),
@@ -108,18 +115,13 @@ fn crowds() -> [Vec<Agent>; 5] {
         port: Id { subtype, octets: octets.to_vec() },
     });
     // Two agents of one chassis, of each kind: they differ in their port IDs.
-    let kinds = [address(&six), address(&[2; 8]), local(b"AF")];
+    let kinds = [address(&SIX), address(&[2; 8]), local(b"AF")];
     let two_of_each = kinds.into_iter().flat_map(|chassis| {
         let first = Agent::of(chassis);
         let mut second = first.clone();
         second.port.octets.push(0x31);
         [first, second]
     });
-    [
-        subtypes.map(Agent::of).to_vec(),
-        spelled.map(Agent::of).to_vec(),
-        long.map(Agent::of).to_vec(),
-        shared.to_vec(),
-        two_of_each.collect(),
-    ]
+    let [subtypes, spelled, long] = much_alike().map(|chassis| chassis.map(Agent::of).to_vec());
+    [subtypes, spelled, long, shared.to_vec(), two_of_each.collect()]
 }

@@ -5,16 +5,18 @@ use super::desk::Desk;
 use super::Event;
 use crate::frames::blocks::*;
 use crate::frames::maker::Maker as FrameMaker;
+use crate::frames::two_octets;
 use crate::id::Id;
 use crate::reader::outline_frame;
 use crate::rng::{self, Rng};
+use crate::table::{MOST_OF_A_CHASSIS, PORTS};
 
 pub struct Maker {
     pub frames: FrameMaker,
     pub events: Vec<Event>,
     pub desk: Desk,
-    /// How many agents were made that nobody had seen before.
-    unseen: u16,
+    /// How many agents were made for each port that nobody had seen before, and last for no port.
+    unseen: [usize; PORTS + 1],
 }
 
 /// Who is announced by a frame: an identity but for the receiving port (N2).
@@ -27,7 +29,13 @@ pub struct Agent {
 impl Agent {
     /// One that has the port ID of frame A.
     pub fn of(chassis: Id) -> Agent {
-        Agent { chassis, port: Id { subtype: 7, octets: b"1".to_vec() } }
+        Agent::numbered(chassis, 1)
+    }
+
+    /// One of several that share a chassis, which have other port IDs (N2). The first has that of
+    /// frame A.
+    pub fn numbered(chassis: Id, number: usize) -> Agent {
+        Agent { chassis, port: Id { subtype: 7, octets: vec![b'0' + number as u8] } }
     }
 
     pub fn announcement(&self, seconds: u16, later: &[Tlv]) -> Vec<u8> {
@@ -38,7 +46,7 @@ impl Agent {
 impl Maker {
     pub fn new() -> Self {
         let frames = FrameMaker { rng: Rng::new(rng::EVENTS), cases: vec![] };
-        Maker { frames, events: Vec::new(), desk: Desk::new(), unseen: 0 }
+        Maker { frames, events: Vec::new(), desk: Desk::new(), unseen: [0; PORTS + 1] }
     }
 
     pub fn rng(&mut self) -> &mut Rng {
@@ -64,7 +72,7 @@ impl Maker {
 
     /// A frame from an agent that was never heard before, of seconds that last.
     pub fn hear_somebody_new(&mut self, port: usize) {
-        let agent = self.unseen_agent();
+        let agent = self.unseen_agent(port);
         let seconds = self.rng().between(300, 65_535) as u16;
         let later = self.light_later();
         let frame = [self.frames.header(), agent.announcement(seconds, &later)].concat();
@@ -73,15 +81,20 @@ impl Maker {
         self.call(Event::Frame { port, frame });
     }
 
-    /// The kinds of chassis come in turn (L3).
-    pub fn unseen_agent(&mut self) -> Agent {
-        self.unseen += 1;
-        let [high, low] = self.unseen.to_be_bytes();
-        Agent::of(match self.unseen % 3 {
-            0 => address(&[0x0A, 0, 0, 0, high, low]),
-            1 => address(&[0x0A, 0, 0, 0, 0, 0, high, low]),
-            _ => local(format!("{:04X}", self.unseen).as_bytes()),
-        })
+    /// The kinds of chassis come in turn (L3). As many in a row share one as it may hold on the port,
+    /// so that none of them is refused for it (N13).
+    pub fn unseen_agent(&mut self, port: usize) -> Agent {
+        let port = port.min(PORTS);
+        let before = self.unseen[port];
+        self.unseen[port] += 1;
+        let chassis = before / MOST_OF_A_CHASSIS;
+        let ([high, low], of_port) = (two_octets(chassis), port as u8);
+        let chassis = match chassis % 3 {
+            0 => address(&[0x0A, 0, 0, of_port, high, low]),
+            1 => address(&[0x0A, 0, 0, 0, 0, of_port, high, low]),
+            _ => local(format!("{port:02X}{chassis:04X}").as_bytes()),
+        };
+        Agent::numbered(chassis, 1 + before % MOST_OF_A_CHASSIS)
     }
 
     /// Nothing, what makes it HTIP, or link information.

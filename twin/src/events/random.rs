@@ -9,7 +9,9 @@ use crate::frames::blocks::*;
 use crate::frames::hex;
 use crate::id::Id;
 use crate::reader::Address;
-use crate::table::{BUFFER_OCTETS, COMMON, LAST_PLACE, MOST, PLACES, PLACE_OCTETS, PORTS, SURE};
+use crate::table::{
+    BUFFER_OCTETS, COMMON, LAST_PLACE, MOST, MOST_OF_A_CHASSIS, PLACES, PLACE_OCTETS, PORTS, SURE,
+};
 
 const SEQUENCES: usize = 64;
 const CALLS: usize = 44;
@@ -30,6 +32,7 @@ impl Maker {
                     self.one_more_of_each_kind();
                 }
                 4 => self.fill_whole_places(ports),
+                5 => self.begin_loud(&ports[..2]),
                 _ => {}
             }
             for _ in 0..CALLS {
@@ -65,6 +68,17 @@ impl Maker {
         }
     }
 
+    /// Three of a chassis on each of the ports, and a fourth (N13).
+    fn begin_loud(&mut self, ports: &[usize]) {
+        let Agent { chassis, .. } = self.random_agent();
+        for &port in ports {
+            for number in 1..=MOST_OF_A_CHASSIS + 1 {
+                let agent = Agent::numbered(chassis.clone(), number);
+                self.hear(port, agent.announcement(200, &[]));
+            }
+        }
+    }
+
     /// New ones on some of the ports until the common places are taken.
     fn take_the_common(&mut self, ports: &[usize]) {
         while self.desk.table.common_taken() < COMMON {
@@ -95,7 +109,7 @@ impl Maker {
     fn fill_whole_places(&mut self, ports: &[usize]) {
         for octets in [PLACE_OCTETS, PLACE_OCTETS - 1] {
             let port = self.rng().pick(ports);
-            let agent = self.unseen_agent();
+            let agent = self.unseen_agent(port);
             let longest = long_announcement(&agent, octets);
             self.hear(port, longest.clone());
             if self.rng().once_in(2) {
@@ -273,6 +287,7 @@ impl Maker {
                 let last = agent.port.octets.len() - 1;
                 agent.port.octets[last] ^= 1 << self.rng().below(8);
             }
+            7 | 8 => agent = Agent::numbered(agent.chassis, self.rng().between(1, 9)),
             _ => {}
         }
         agent.port.octets.truncate(255);
@@ -332,7 +347,7 @@ impl Maker {
     fn end_with_a_whole_place(&mut self) {
         let port = self.rng().below(PORTS);
         self.call(Event::Lost { port });
-        let agent = self.unseen_agent();
+        let agent = self.unseen_agent(port);
         self.hear(port, long_announcement(&agent, PLACE_OCTETS));
     }
 

@@ -1,13 +1,15 @@
 //! Spoiled tables: from each kept table several in every way that fitness names (N5).
 //! Edits are proposed at random; those are taken that break the one condition they are meant for.
 
-use super::desk::STORE_OCTETS;
+use super::desk::{Desk, STORE_OCTETS};
 use super::maker::{Agent, Maker};
 use super::{Event, Trial};
 use crate::frames::blocks::{from_a_group, leading_of, pool, stations, GROUPS};
+use crate::id::Id;
 use crate::reader::{outline_lldpdu, Address};
 use crate::table::{
-    buffer_octets, octets_of, BUFFER_OCTETS, COMMON, LAST_PORT, MOST, PLACE_OCTETS, PORTS, SURE,
+    buffer_octets, octets_of, BUFFER_OCTETS, COMMON, LAST_PLACE, LAST_PORT, MOST, PLACES,
+    PLACE_OCTETS, PORTS, SURE,
 };
 
 /// How often a proposal is made before a kept table is given up.
@@ -34,13 +36,14 @@ pub enum Way {
     IdentityTwice,
     SevenOnAPort,
     OneBeyondTheCommon,
+    LoudChassis,
 }
 
 impl Way {
     /// Every way, the condition of N5 that it breaks, and how many tables are spoiled so after a
-    /// sequence. The last two ways need a port with six, or the common places taken, which not all
-    /// sequences end with.
-    pub const ALL: [(Way, char, usize); 19] = [
+    /// sequence. Two ways need a port with six, or the common places taken, which not all sequences
+    /// end with.
+    pub const ALL: [(Way, char, usize); 20] = [
         (Way::ShorterBuffer, 'a', 5),
         (Way::LongerBuffer, 'a', 5),
         (Way::EmptyBuffer, 'a', 5),
@@ -60,6 +63,7 @@ impl Way {
         (Way::IdentityTwice, 'd', 6),
         (Way::SevenOnAPort, 'e', 8),
         (Way::OneBeyondTheCommon, 'f', 15),
+        (Way::LoudChassis, 'g', 5),
     ];
 
     /// The condition of N5 that is broken.
@@ -75,12 +79,27 @@ impl Maker {
         for (way, _, tables) in Way::ALL {
             for _ in 0..tables {
                 if let Some(edits) = self.edits(way) {
-                    let trial = self.trial(way);
-                    self.events.extend(edits);
-                    self.events.push(Event::Spoiled(trial));
+                    self.spoil(way, edits);
                 }
             }
         }
+    }
+
+    /// The kept table is spoiled by these edits.
+    fn spoil(&mut self, way: Way, edits: Vec<Event>) {
+        let trial = self.trial(way);
+        self.events.extend(edits);
+        self.events.push(Event::Spoiled(trial));
+    }
+
+    /// The kept table is spoiled: records of a port get a chassis that holds three there (N13).
+    pub fn spoil_by_a_loud_chassis(&mut self, places: &[usize], chassis: &Id) {
+        let edits = places.iter().flat_map(|&place| {
+            let edits = self.chassis_becomes(place, chassis.clone());
+            edits.expect("the chassis that it had is as long")
+        });
+        let edits = edits.collect();
+        self.spoil(Way::LoudChassis, edits);
     }
 
     /// Edits that break the condition of the way and no other; none where they are not found.
@@ -95,17 +114,24 @@ impl Maker {
         })
     }
 
-    /// Nothing may hide behind a wrong port, a group address as source, a damaged frame or a start
-    /// past the last place (R11).
+    /// Nothing may hide behind a wrong port, a group address as source, a damaged frame, a start
+    /// past the last place, or a chassis that holds three on its port (R11).
     fn trial(&mut self, way: Way) -> Trial {
-        let number = match self.rng().below(6) {
+        let mut number = match self.rng().below(6) {
             0 => self.random_port(&[PORTS]),
             1 => self.random_start(),
             _ => self.rng().below(PORTS),
         };
         let agent = match self.any_used() {
-            Some(place) if self.rng().once_in(2) => self.agent_at(place),
-            _ => self.unseen_agent(),
+            Some(place) if self.rng().once_in(2) => {
+                let mut agent = self.agent_at(place);
+                if self.rng().once_in(2) {
+                    number = usize::from(self.desk.table.port[place]);
+                    agent.port.octets = b"new".to_vec();
+                }
+                agent
+            }
+            _ => self.unseen_agent(number),
         };
         let seconds = self.rng().pick(&[0, 1, 120, 65_535]);
         let mut frame = [self.frames.header(), agent.announcement(seconds, &[])].concat();
@@ -173,6 +199,7 @@ impl Maker {
                 let ports = self.ports_holding(SURE, MOST - 1);
                 self.one_more_on(&ports)
             }
+            Way::LoudChassis => self.chassis_becomes_loud(),
         }
     }
 
@@ -220,9 +247,10 @@ impl Maker {
         Some(vec![Event::SetSender { place, sender: self.rng().pick(&[sender, sender, other]) }])
     }
 
-    /// An octet of a free place, or a place whose numbers alone become free, with its sender or not.
+    /// An octet of a free place, or a place whose numbers alone become free, with its sender or not. A
+    /// place that alone is free is always the one, so that the first and the last are not spared.
     fn free_octet(&mut self) -> Option<Vec<Event>> {
-        if self.rng().once_in(4) {
+        if self.desk.table.free().count() != 1 && self.rng().once_in(4) {
             let place = self.any_used()?;
             let mut edits = vec![
                 Event::SetPort { place, port: 0 },
@@ -322,16 +350,22 @@ impl Maker {
         outline_lldpdu(&lldpdu).is_err().then(|| vec![edit])
     }
 
-    /// The chassis alone breaks a rule (L3). What it has more, the port ID has fewer.
+    /// The chassis alone breaks a rule (L3).
     fn chassis_becomes_wrong(&mut self) -> Option<Vec<Event>> {
         let place = self.any_used()?;
-        let mut agent = self.agent_at(place);
-        let before = agent.chassis.octets.len();
-        agent.chassis = self.wrong_chassis(agent.chassis);
-        let rest = before + agent.port.octets.len() - agent.chassis.octets.len();
-        agent.port.octets.resize(rest, b'1');
+        let right = self.agent_at(place).chassis;
+        let wrong = self.wrong_chassis(right);
+        self.chassis_becomes(place, wrong)
+    }
+
+    /// The chassis of a record becomes another one. What it has more, the port ID has fewer; none
+    /// where no port ID has so many (L4).
+    fn chassis_becomes(&self, place: usize, chassis: Id) -> Option<Vec<Event>> {
+        let Agent { chassis: before, mut port } = self.agent_at(place);
+        let rest = (before.octets.len() + port.octets.len()).checked_sub(chassis.octets.len())?;
+        port.octets.resize(rest, b'1');
         if (1..=255).contains(&rest) {
-            self.ids_become(place, &agent)
+            self.ids_become(place, &Agent { chassis, port })
         } else {
             None
         }
@@ -410,5 +444,54 @@ impl Maker {
         }
         let to = self.any_free()?;
         Some(vec![Event::CopyPlace { from, to }, Event::SetPort { place: to, port }])
+    }
+
+    /// Four to six of one chassis on a port (N13). It is one of the loudest already, so that few edits
+    /// are needed.
+    fn chassis_becomes_loud(&mut self) -> Option<Vec<Event>> {
+        let used: Vec<usize> = self.desk.table.used().collect();
+        let held = used.iter().map(|&place| self.held_beside(place)).max()?;
+        let loudest: Vec<usize> =
+            used.into_iter().filter(|&place| self.held_beside(place) == held).collect();
+        let from = self.any_of(&loudest)?;
+        let goal = self.rng().pick(&[4, 4, 5, 6]);
+        let more: Option<Vec<_>> = (held..goal).map(|_| self.one_more_beside(from)).collect();
+        Some(more?.concat())
+    }
+
+    /// What the chassis of a record holds on its port.
+    fn held_beside(&self, place: usize) -> usize {
+        let Desk { table, .. } = &self.desk;
+        let chassis = self.agent_at(place).chassis;
+        table.held_by(self.desk.buffer(), usize::from(table.port[place]), &chassis)
+    }
+
+    /// One more of a record's chassis on its port: one of another port comes there, any other record
+    /// becomes one, or the record is copied and gets another port ID.
+    fn one_more_beside(&mut self, from: usize) -> Option<Vec<Event>> {
+        let port = self.desk.table.port[from];
+        let chassis = self.agent_at(from).chassis;
+        let used: Vec<usize> = self.desk.table.used().collect();
+        let is_here = |&place: &usize| self.desk.table.port[place] == port;
+        let (here, elsewhere): (Vec<usize>, Vec<usize>) = used.into_iter().partition(is_here);
+        match self.rng().below(10) {
+            0 | 1 => {
+                let of_chassis = |&place: &usize| self.agent_at(place).chassis == chassis;
+                let same: Vec<usize> = elsewhere.into_iter().filter(of_chassis).collect();
+                Some(vec![Event::SetPort { place: self.any_of(&same)?, port }])
+            }
+            2 => {
+                let place = self.any_used()?;
+                let becomes = self.chassis_becomes(place, chassis)?;
+                Some([vec![Event::SetPort { place, port }], becomes].concat())
+            }
+            _ => {
+                let [any, beside] = [self.rng().below(PLACES), self.rng().pick(&here)];
+                let to = self.rng().pick(&[any, any, beside, beside, 0, LAST_PLACE]);
+                let last = self.behind_port_id(from) - octets_of(from).start - 1;
+                let other = self.octet_becomes(octets_of(to).start + last);
+                Some(vec![Event::CopyPlace { from, to }, other])
+            }
+        }
     }
 }

@@ -1,5 +1,5 @@
--- `fitness::is_fit` meets its contract: buffer length, shares, places, identities; the first that fails decides.
--- The marks that the places gave serve the identities.
+-- `fitness::is_fit` meets its contract: buffer length, shares, places, each beside the others; the first that fails decides.
+-- The marks that the places gave serve the last of these.
 use mathlib.Core.Path.{sym, _∙_}
 use denote.Ref.{now}
 use borrow.Author.Needs.{needs}
@@ -17,8 +17,8 @@ shares-fit-requires c κs = search needs
 marks-of-requires : tie.Need-marks-of-requires
 marks-of-requires c κs = search needs
 
-all-single-requires : tie.Need-all-single-requires
-all-single-requires c κs =
+all-fit-in-requires : tie.Need-all-fit-in-requires
+all-fit-in-requires c κs =
     let marks = c .before .before in
     (marks .before .before .before .if1 .left, marks .marks-of .ensures .0 .marked (c .before .if3 .taken))
 
@@ -31,7 +31,7 @@ returns-2 c =
     let one = shares .before in
     let a = one .before .before .args in
     fit-by (state (a .t) (now (a .buffer))) (one .if1 .left) (sym (shares .shares-fit .ensures) ∙ two .if2 .taken) (sym (marks .marks-of .ensures .0 .told) ∙ three .if3 .taken)
-    (c .all-single .ensures)
+    (c .all-fit-in .ensures)
 
 returns-3 : tie.Need-returns-3
 returns-3 c =
@@ -54,7 +54,7 @@ is-fit-spec =
     returns
     shares-fit-requires
     marks-of-requires
-    all-single-requires
+    all-fit-in-requires
     returns-2
     returns-3
     returns-4)

@@ -1,9 +1,11 @@
 -- `hearing::hear` meets its contract: the place that is found decides between a known and a new identity (saying-known, saying-new).
 -- The identity is that of the outline.
-use mathlib.Core.Path.{_∙_}
+use mathlib.Core.Path.{ap, _∙_}
 use native.Mathlib.Omega.{arith}
 use borrow.Author.Needs.{needs}
+use Rattle.rules.specs.Identity.{Ident}
 use Rattle.place.specs.State.{state}
+use Rattle.place.proofs.WhoseLaws.{outline-ident}
 use Rattle.fitness.proofs.FitLaws.{fit-length}
 use Rattle.hearing.proofs.ReplyLaws.{saying-known, saying-new}
 use Rattle.hearing.proofs.hear.Statement.{statement}
@@ -29,7 +31,9 @@ returns c =
     ∙ saying-known (a .p) (a .sender) (a .l .now) (state (a .t) (a .buffer .now)) (o .pre .1 .1 .1) (n .place-of .ensures) (omega (arith, c .before .before .before .before .if1 .taken))
 
 hear-new-requires : tie.Need-hear-new-requires
-hear-new-requires c κs = search needs
+hear-new-requires c κs =
+    let o = c .before .before .before .before .before .before in
+    (o .pre .0, (o .pre .1 .0, (o .pre .1 .1 .0, ap (λ (w : Ident). w .chassis) (outline-ident (o .args .p) (o .args .l .now) (o .pre .1 .1 .1)))))
 
 same-length-2 : tie.Need-same-length-2
 same-length-2 c = search needs
