@@ -22,19 +22,21 @@ use Rattle.fitness.specs.Fit.{within, fitsIn}
 use Rattle.marks.specs.Marks.{chassisMark, identityMark, markAt, alike, apart, kin, few, settled, Marked}
 use Rattle.fitness.proofs.TwinLaws.{clear-free, apart-single}
 
--- the loop over all marks ends with their count
+-- a place that is used is asked for a number that was counted: marks that agree, or records
+by-count : {n k c : ℕ} → n ≢ 0 → k ≡ c → leb k perChassis ≡ pick (eqb n 0) true (leb c perChassis)
+by-count {n} u e = ap (λ (x : ℕ). leb x perChassis) e ∙ sym (rw (ne-eqb n 0 u))
+
 pub few-free : (marks : List ℕ) (i n : ℕ) → n ≡ 0 → true ≡ few marks i n
 unfolding few
 few-free marks i n e = sym (rw (eq-eqb n 0 e))
 
 pub few-counted : (marks : List ℕ) (i n : ℕ) → n ≢ 0 → {k : ℕ} → k ≡ count (kin marks i) places → leb k perChassis ≡ few marks i n
 unfolding few
-few-counted marks i n u e = ap (λ (x : ℕ). leb x perChassis) e ∙ sym (rw (ne-eqb n 0 u))
+few-counted marks i n u e = by-count u e
 
--- place i is used, and its chassis is counted
 pub within-counted : (s : State) (i : ℕ) → at s i .len ≢ 0 → {k : ℕ} → k ≡ countRecords s (chassisIs (whoAt (at s i) .port) (whoAt (at s i) .chassis)) → leb k perChassis ≡ within s i
 unfolding within
-within-counted s i u e = ap (λ (x : ℕ). leb x perChassis) e ∙ sym (rw (ne-eqb (at s i .len) 0 u))
+within-counted s i u e = by-count u e
 
 mark-front : (w : Ident) → identityMark w / 65536 ≡ chassisMark (w .port) (w .chassis)
 unfolding identityMark

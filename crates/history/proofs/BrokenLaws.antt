@@ -4,46 +4,29 @@ use Prim.Native.Nat.{ℕ, _+_, _≤_}
 use mathlib.Core.Path.{_≡_, refl, sym, ap, _∙_}
 use mathlib.Core.Bool.{Bool, true, false, not}
 use mathlib.Core.List.{[], _∷_, _++_}
-use mathlib.Core.Option.{none, some}
 use native.Mathlib.Omega.{arith}
 use borrow.Author.Tests.{ne-eqb}
 use Rattle.tally.specs.Tests.{both}
-use Rattle.tally.specs.Counts.{one}
 use Rattle.ids.specs.Id.{Id, sameId}
 use Rattle.rules.specs.Identity.{Ident, same}
 use Rattle.rules.specs.Events.{unread, says, frame, passed, lost, History, whose}
 use Rattle.rules.specs.Shares.{perChassis, portIs, chassisIs}
-use Rattle.rules.specs.Model.{Places, lookup, tally, holdsIn, holdsOf, run}
+use Rattle.rules.specs.Model.{Places, lookup, tally, run}
 use Rattle.rules.proofs.IdentityLaws.{clash, same-true}
-use Rattle.rules.proofs.SharesLaws.{chassis-true, chassis-is}
+use Rattle.rules.proofs.SharesLaws.{chassis-true, chassis-is, otherOn, port-parts}
 use Rattle.rules.proofs.FrameLaws.{unread-frame, frame-lookup, frame-tally}
 use Rattle.history.specs.Past.{held, heldOf}
 use Rattle.history.specs.Broken.{AllOfChassis, AtMost}
 use Rattle.history.proofs.AgreeLaws.{holds-held, holds-of, sound}
 
 module _ (p : ℕ) (c : Id) where
-  -- heard on port p from another chassis
-  abbrev other : Ident → Bool
-  other w = both (portIs p w) (not (sameId (w .chassis) c))
-
-  other-false : (w : Ident) → chassisIs p c w ≡ true → other w ≡ false
+  other-false : (w : Ident) → chassisIs p c w ≡ true → otherOn p c w ≡ false
   other-false w e = go (portIs p w) (sameId (w .chassis) c) e
     where
       go : (a b : Bool) → both a b ≡ true → both a (not b) ≡ false
       go true true e = refl
       go true false e = absurd (clash false e refl)
       go false b e = refl
-
-  -- what a port holds is of the chassis or of another
-  port-parts : (t : Places) → holdsIn t p ≡ holdsOf t p c + tally other t
-  port-parts [] = refl
-  port-parts (none ∷ t) = omega (arith, port-parts t)
-  port-parts (some r ∷ t) = omega (arith, parts (portIs p (r .who)) (sameId (r .who .chassis) c), port-parts t)
-    where
-      parts : (a b : Bool) → one a ≡ one (both a b) + one (both a (not b))
-      parts true true = refl
-      parts true false = refl
-      parts false b = refl
 
   module _ (n : ℕ) (h : History) where
     abbrev before : Places
@@ -78,7 +61,7 @@ module _ (p : ℕ) (c : Id) where
     at-most later a =
         record {
           three = sound n (later ++ h) .fit .three p c;
-          grown = omega (arith, port-parts (after later), port-parts before, tally-later other other-false later a);
+          grown = omega (arith, port-parts (after later) p c, port-parts before p c, tally-later (otherOn p c) other-false later a);
           elsewhere = λ q d. tally-later (portIs q) (λ w e. ne-eqb (w .port) q (λ z. d (sym z ∙ chassis-true p c w e .0))) later a;
           others = λ w f. lookup-later w f later a;
         }

@@ -3,7 +3,7 @@
 use Prim.Native.Nat.{ℕ, zero, suc, _+_, _-_, _*_, _≤_, _<_}
 use mathlib.Core.Path.{_≡_, refl, sym, _∙_}
 use mathlib.Core.List.{[], _∷_}
-use mathlib.Core.Bool.{Bool, true, false}
+use mathlib.Core.Bool.{Bool, true, false, not}
 use mathlib.Core.Logic.{_≢_}
 use mathlib.Core.Option.{Option, none, some}
 use native.Mathlib.Omega.{arith}
@@ -33,16 +33,24 @@ chassis-true q c w e =
 pub chassis-is : (q : ℕ) (c : Id) (w : Ident) → w .port ≡ q → w .chassis ≡ c → chassisIs q c w ≡ true
 chassis-is q c w e d = both-hold (eq-eqb (w .port) q e) (rw d (same-id-self c))
 
--- a chassis with three means a port with three
-pub chassis-port : (t : Places) (q : ℕ) (c : Id) → holdsOf t q c ≤ holdsIn t q
-chassis-port [] q c = omega arith
-chassis-port (none ∷ t) q c = omega (arith, chassis-port t q c)
-chassis-port (some r ∷ t) q c = omega (arith, fewer (portIs q (r .who)) (sameId (r .who .chassis) c), chassis-port t q c)
+-- heard on port q from another chassis than c
+abbrev pub otherOn : ℕ → Id → Ident → Bool
+otherOn q c w = both (portIs q w) (not (sameId (w .chassis) c))
+
+-- what a port holds is of the chassis or of another
+pub port-parts : (t : Places) (q : ℕ) (c : Id) → holdsIn t q ≡ holdsOf t q c + tally (otherOn q c) t
+port-parts [] q c = refl
+port-parts (none ∷ t) q c = omega (arith, port-parts t q c)
+port-parts (some r ∷ t) q c = omega (arith, parts (portIs q (r .who)) (sameId (r .who .chassis) c), port-parts t q c)
   where
-    fewer : (a b : Bool) → one (both a b) ≤ one a
-    fewer true true = omega arith
-    fewer true false = omega arith
-    fewer false b = omega arith
+    parts : (a b : Bool) → one a ≡ one (both a b) + one (both a (not b))
+    parts true true = refl
+    parts true false = refl
+    parts false b = refl
+
+-- so a chassis with three means a port with three
+pub chassis-port : (t : Places) (q : ℕ) (c : Id) → holdsOf t q c ≤ holdsIn t q
+chassis-port t q c = omega (arith, port-parts t q c)
 
 -- Numbers by port
 
