@@ -12,9 +12,11 @@ use lib.ListN.{length, getD}
 use Rattle.tally.specs.Tests.{pick, both}
 use Rattle.tally.specs.Ranges.{allBelow}
 use Rattle.tally.specs.Counts.{one, count}
+use Rattle.tally.specs.Tab.{tab}
 use Rattle.tally.proofs.TestsLaws.{both-true}
 use Rattle.tally.proofs.RangesLaws.{all-true, all-each}
 use Rattle.tally.proofs.CountsLaws.{count-some}
+use Rattle.tally.proofs.TabLaws.{length-tab, getD-tab}
 use Rattle.ids.specs.Id.{Id}
 use Rattle.rules.specs.Identity.{Ident, same}
 use Rattle.rules.specs.Shares.{most, perChassis, beyond, portIs, chassisIs}
@@ -22,9 +24,8 @@ use Rattle.rules.specs.Model as model
 use Rattle.rules.specs.Model.{Rec, hits, tally}
 use Rattle.rules.specs.Fit as model-fit
 use Rattle.rules.specs.Fit.{Once}
-use Rattle.rules.specs.Tab.{tab}
 use Rattle.rules.proofs.SharesLaws.{chassis-true, ports-none}
-use Rattle.rules.proofs.TabLaws.{Apart, length-tab, getD-tab, tally-tab, in-tab, once-tab, tab-once}
+use Rattle.rules.proofs.TabLaws.{Apart, tally-tab, in-tab, once-tab, tab-once}
 use Rattle.numbers.specs.Sizes.{ports, places, common}
 use Rattle.numbers.specs.Numbers.{holds}
 use Rattle.place.specs.State.{Place, State, octets, at, used, whoAt, isOf, passes, countRecords}
@@ -77,7 +78,7 @@ module _ (s : State) where
 
   pub getD-view : (k : ℕ) → k < places → getD (view s) k none ≡ placeOf (at s k)
   unfolding view
-  getD-view k l = getD-tab places placed k l
+  getD-view k l = getD-tab places placed k none l
 
   pub view-long : length (view s) ≡ places
   unfolding view

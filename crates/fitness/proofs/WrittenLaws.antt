@@ -10,6 +10,7 @@ use native.Mathlib.Omega.{arith}
 use borrow.Author.Tests.{eqb-true, eqb-false}
 use lib.Dec.{eqb}
 use lib.ListN.{length, set}
+use Rattle.tally.specs.Tab.{tab}
 use Rattle.octets.specs.Address.{isGroup}
 use Rattle.lldpdu.specs.Extent.{extentOf}
 use Rattle.lldpdu.specs.Outline.{outlineOf}
@@ -17,7 +18,6 @@ use Rattle.walk.specs.declared.Extent.the-variants.{Octets}
 use Rattle.rules.specs.Events.{Announcement, whose}
 use Rattle.rules.specs.Model as model
 use Rattle.rules.specs.Model.{Rec, recorded}
-use Rattle.rules.specs.Tab.{tab}
 use Rattle.rules.proofs.TabLaws.{tab-set, tab-each}
 use Rattle.numbers.specs.Sizes.{ports, places}
 use Rattle.place.specs.State.{Place, State, Sized, size, at, put, each, keep, whoseIn, said}

@@ -3,8 +3,8 @@
 use mathlib.Core.Option.{Option, none, some}
 use lib.Dec.{eqb}
 use Rattle.tally.specs.Tests.{pick}
+use Rattle.tally.specs.Tab.{tab}
 use Rattle.rules.specs.Model.{Rec, Places}
-use Rattle.rules.specs.Tab.{tab}
 use Rattle.numbers.specs.Sizes.{places}
 use Rattle.place.specs.State.{Place, State, at, lldpduAt, whoAt}
 

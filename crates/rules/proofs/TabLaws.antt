@@ -7,11 +7,12 @@ use mathlib.Core.List.{_∷_}
 use mathlib.Core.Bool.{Bool, false}
 use mathlib.Core.Option.{Option, none, some}
 use native.Mathlib.Omega.{arith}
-use lib.ListN.{length, getD, set}
+use lib.ListN.{set}
+use Rattle.tally.specs.Tab.{tab}
+use Rattle.tally.proofs.TabLaws.{getD-tab, tab-same}
 use Rattle.rules.specs.Identity.{Ident, same}
 use Rattle.rules.specs.Model.{Rec, Places, hits, tally, onRecord, eachRecord}
 use Rattle.rules.specs.Fit.{InPlace, InAll, Absent, Once}
-use Rattle.rules.specs.Tab.{tab}
 use Rattle.rules.proofs.EachLaws.{Free}
 use Rattle.rules.proofs.PlacesLaws.{in-some, in-at}
 
@@ -21,23 +22,7 @@ cons x t = x ∷ t
 abbrev next : (ℕ → Option Rec) → ℕ → Option Rec
 next f k = f (suc k)
 
-pub length-tab : (m : ℕ) (f : ℕ → Option Rec) → length (tab m f) ≡ m
-unfolding tab
-length-tab zero f = refl
-length-tab (suc m) f = ap suc (length-tab m (next f))
-
-pub getD-tab : (m : ℕ) (f : ℕ → Option Rec) (i : ℕ) → i < m → getD (tab m f) i none ≡ f i
-unfolding tab
-getD-tab zero f i l = absurd (omega arith)
-getD-tab (suc m) f zero l = refl
-getD-tab (suc m) f (suc i) l = getD-tab m (next f) i (omega arith)
-
 -- Two tables, place by place
-
-pub tab-same : (m : ℕ) (f g : ℕ → Option Rec) → ((i : ℕ) → i < m → g i ≡ f i) → tab m g ≡ tab m f
-unfolding tab
-tab-same zero f g h = refl
-tab-same (suc m) f g h = ap₂ cons (h 0 (omega arith)) (tab-same m (next f) (next g) (λ i l. h (suc i) (omega arith)))
 
 -- one place written: a new record, a refresh, a goodbye
 pub tab-set : (m : ℕ) (f g : ℕ → Option Rec) (i : ℕ) → i < m → ((j : ℕ) → j < m → j ≢ i → g j ≡ f j) → tab m g ≡ set (tab m f) i (g i)
@@ -91,7 +76,7 @@ tab-once zero f o j k x y l n e d = absurd (omega arith)
 tab-once (suc m) f o j zero x y l n e d = absurd (omega arith)
 tab-once (suc m) f o zero (suc k) x y l n e d =
     in-at (λ v. same (x .who) v ≡ false) (tab m (next f)) k y (in-some (λ v. Absent v (tab m (next f))) (f 0) x (o .0) e)
-    (getD-tab m (next f) k (omega arith) ∙ d)
+    (getD-tab m (next f) k none (omega arith) ∙ d)
 tab-once (suc m) f o (suc j) (suc k) x y l n e d = tab-once m (next f) (o .1) j k x y (omega arith) (omega arith) e d
 
 -- a free place of the list is one of the places

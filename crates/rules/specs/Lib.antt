@@ -6,4 +6,3 @@ pub mod Shares
 pub mod Answers
 pub mod Model
 pub mod Fit
-pub mod Tab

@@ -4,21 +4,21 @@ use Prim.Native.Nat.{ℕ, zero, suc, _+_, _*_, _≤_, _<_}
 use mathlib.Core.Path.{_≡_, refl, sym, ap, _∙_}
 use mathlib.Core.Bool.{Bool, true, false}
 use mathlib.Core.List.{List, [], _∷_}
-use mathlib.Core.Option.{none}
+use mathlib.Core.Option.{Option, none}
 use native.Mathlib.Omega.{arith}
 use borrow.Author.Tests.{eq-eqb, lt-ltb, le-ltb, ltb-true, ltb-false}
 use lib.Dec.{ltb}
 use lib.ListN.{length, take, drop, replicate, length-replicate, getD-replicate, length-drop}
 use lib.Seq.{ext-getD, getD-take, getD-drop, length-take-le}
+use Rattle.tally.specs.Tab.{tab}
+use Rattle.tally.proofs.TabLaws.{tab-same}
 use Rattle.rules.specs.Events as event
 use Rattle.rules.specs.Events.{Event}
 use Rattle.rules.specs.Model as model
-use Rattle.rules.specs.Model.{Places, tick, unplug, run, reply}
+use Rattle.rules.specs.Model.{Rec, Places, tick, unplug, run, reply}
 use Rattle.rules.specs.Fit as model-fit
-use Rattle.rules.specs.Tab.{tab}
 use Rattle.rules.proofs.FrameLaws as model-laws
 use Rattle.rules.proofs.FrameLaws.{unplug-none, step-fit}
-use Rattle.rules.proofs.TabLaws.{tab-same}
 use Rattle.numbers.specs.Sizes.{ports, places}
 use Rattle.numbers.specs.declared.Sender.{Sender}
 use Rattle.place.specs.State.{State, Sized, size, octets, sixZeros, noSender, at, each, free, empty}
@@ -90,7 +90,7 @@ empty-sized =
       buf-long = length-replicate {A = ℕ} octets 0;
     }
 
-tab-none : (m : ℕ) → tab m (λ k. none) ≡ replicate m none
+tab-none : (m : ℕ) → tab {A = Option Rec} m (λ k. none) ≡ replicate m none
 unfolding tab
 tab-none zero = refl
 tab-none (suc m) = ap (λ (t : Places). none ∷ t) (tab-none m)

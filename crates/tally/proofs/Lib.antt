@@ -3,4 +3,5 @@
 pub mod TestsLaws
 pub mod RangesLaws
 pub mod CountsLaws
+pub mod TabLaws
 pub mod Sole

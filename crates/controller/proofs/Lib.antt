@@ -1,0 +1,4 @@
+-- What a caller in C may believe, from the exports' contracts alone.
+-- Each call is one of the sequences that history speaks of, so its theorems hold; what is read crosses without loss.
+pub mod Runs
+pub mod ReadLaws
