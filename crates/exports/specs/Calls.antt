@@ -106,10 +106,10 @@ unfoldable pub counting : ℕ → Lent → List ℕ → List ℕ → Back
 counting p x b a =
     ifRight (countRight x a) (a ∷ []) (back (refusalOfCount (counted p (stateIn x b))) (countOctets (counted p (stateIn x b)) a ∷ []))
 
--- with the address w
 abbrev pub addressLong : ℕ
 addressLong = 6
 
+-- with the asked address w (X2)
 abbrev pub seeRight : Lent → List ℕ → List ℕ → Bool
 seeRight x w a = all (lengthsOk x ∷ eqb (length w) addressLong ∷ eqb (length a) sightLong ∷ [])
 

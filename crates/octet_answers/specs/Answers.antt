@@ -37,6 +37,10 @@ back n ss = record { returned = n; slices = ss }
 abbrev pub ifRight : Bool → List (List ℕ) → Back → Back
 ifRight right ss b = pick right b (back 1 ss)
 
+-- an answer a of so many octets: a refusal number n, and the octets o that it then holds (X2, X4)
+abbrev pub answered : ℕ → ℕ → List ℕ → List ℕ → Back
+answered long n o a = ifRight (eqb (length a) long) (a ∷ []) (back n (o ∷ []))
+
 -- How many octets
 
 abbrev pub judgedLong : ℕ
@@ -91,7 +95,7 @@ writtenOctets (written-is.Octets n) a = twoOctets n
 writtenOctets (written-is.Refused n) a = a
 
 unfoldable pub written : Written → List ℕ → Back
-written w a = ifRight (eqb (length a) writtenLong) (a ∷ []) (back (refusalOfWritten w) (writtenOctets w a ∷ []))
+written w a = answered writtenLong (refusalOfWritten w) (writtenOctets w a) a
 
 -- Of a frame on a port
 
@@ -104,7 +108,7 @@ replyOctets reply-is.UnknownGoodbye a = 4 ∷ []
 replyOctets (reply-is.Refused n) a = a
 
 unfoldable pub replied : Reply → List ℕ → Back
-replied x a = ifRight (eqb (length a) replyLong) (a ∷ []) (back (refusalOfReply x) (replyOctets x a ∷ []))
+replied x a = answered replyLong (refusalOfReply x) (replyOctets x a) a
 
 -- Of the two questions
 
@@ -113,7 +117,7 @@ countOctets (count-is.Holds n) a = n ∷ []
 countOctets (count-is.Refused n) a = a
 
 unfoldable pub counted : Count → List ℕ → Back
-counted c a = ifRight (eqb (length a) countLong) (a ∷ []) (back (refusalOfCount c) (countOctets c a ∷ []))
+counted c a = answered countLong (refusalOfCount c) (countOctets c a) a
 
 -- its count of octets, 1 to 4, and its value (A4)
 abbrev pub numberOctets : Number → List ℕ
@@ -128,4 +132,4 @@ sightOctets sight-is.Nobody a = replicate sightLong 0
 sightOctets (sight-is.At k interface port) a = placeOctets k interface port
 
 unfoldable pub seen : Sight → List ℕ → Back
-seen x a = ifRight (eqb (length a) sightLong) (a ∷ []) (back (refusalOfSight x) (sightOctets x a ∷ []))
+seen x a = answered sightLong (refusalOfSight x) (sightOctets x a) a

@@ -4,12 +4,11 @@
 use twin::frames::{cases, Kind};
 use twin::reader::{read_lldpdu, Reading};
 use twin::rng::Rng;
-use twin::writer::{write, Part};
+use twin::writer::{write, Description, Part};
 
 use crate::bench::Bench;
 use crate::damage;
 use crate::exports::Export;
-use crate::parts::strings;
 use crate::sizes::{
     DESCRIPTION_OCTETS, HEADER_OCTETS, JUDGED_OCTETS, VERDICT_OCTETS, WRITTEN_OCTETS,
 };
@@ -143,7 +142,7 @@ fn write_again(
     let [_, _, output, answer] = slices;
     // The twin's own reading has its strings in a text of its own.
     let mut text = vec![];
-    let own = strings(reading).with(|string: &Vec<u8>| {
+    let own = Description::read_back(reading).with(|string: &Vec<u8>| {
         let start = text.len() as u64;
         text.extend(string);
         Some(Part { start, len: string.len() as u64 })

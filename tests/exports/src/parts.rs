@@ -99,7 +99,7 @@ pub fn description(lldpdu: &[u8], reading: &Reading) -> Description {
         Some(octets.to_vec())
     };
     // If this fails, the places that are looked for here are wrong, or the twin is.
-    assert_eq!(found.with(cut), Some(strings(reading)), "parts of {lldpdu:02X?}");
+    assert_eq!(found.with(cut), Some(Description::read_back(reading)), "parts of {lldpdu:02X?}");
     found
 }
 
@@ -111,30 +111,5 @@ fn link(lldpdu: &[u8], tlv: &Tlv) -> LinkStrings {
         interface: part(tlv.start + 5, n),
         number: part(tlv.start + 6 + n, m),
         addresses: tlv.from(7 + n + m),
-    }
-}
-
-/// The description that a reading amounts to, with its strings as octets of their own (W6).
-pub fn strings(reading: &Reading) -> Description<Vec<u8>> {
-    Description {
-        chassis: reading.outline.chassis.clone(),
-        port: reading.outline.port.clone(),
-        seconds: reading.outline.seconds,
-        words: reading.description.clone(),
-        category: reading.category.clone(),
-        manufacturer: reading.manufacturer.clone(),
-        model_name: reading.model_name.clone(),
-        model_number: reading.model_number.clone(),
-        link: reading.link.as_ref().map(|link| LinkStrings {
-            interface: link.interface.clone(),
-            number: link.number.clone(),
-            addresses: link.addresses.concat(),
-        }),
-        list: reading.list.as_ref().map(|addresses| addresses.concat()),
-        system_name: reading.system_name.clone(),
-        system_description: reading.system_description.clone(),
-        capabilities: reading.capabilities,
-        management: Management::of(reading.management.clone()),
-        extension: reading.extension.clone(),
     }
 }

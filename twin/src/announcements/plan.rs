@@ -116,7 +116,7 @@ impl<S> Description<S> {
 
 impl Plan {
     /// The description that a reading amounts to (W6).
-    pub(super) fn read_back(reading: &Reading) -> Plan {
+    pub fn read_back(reading: &Reading) -> Plan {
         Plan {
             chassis: reading.outline.chassis.clone(),
             port: reading.outline.port.clone(),
