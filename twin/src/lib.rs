@@ -1,8 +1,9 @@
 //! The twin of a verified LLDP/HTIP reader, writer and table: ordinary Rust, from the rules alone.
 //! It makes cases and the answers it expects, and another program's answers are compared with them.
+//! Beside the plain program, which is made to be read, stands a tuned one with the same answers, which
+//! is made for speed; another program's times are compared with its.
 
 pub mod announcements;
-pub mod clock;
 pub mod events;
 pub mod extension;
 pub mod frames;
@@ -11,6 +12,7 @@ mod numbers;
 pub mod reader;
 pub mod rng;
 pub mod table;
+pub mod tuned;
 pub mod writer;
 
 /// The case file of a kind and the text that is expected for it; none where there is no such kind.

@@ -1,23 +1,21 @@
-//! The command: it writes the case file and the expected text into a directory, or it answers the
-//! questions for the clock. All of that is made by the library; nothing is decided here.
+//! The command: it writes the case file and the expected text into a directory.
+//! Both are made by the library; nothing is decided here.
 
 use std::env;
 use std::ffi::OsStr;
 use std::fs;
-use std::io::{self, Read};
+use std::io;
 use std::path::Path;
 use std::process::ExitCode;
 
-use twin::{clock, files};
+use twin::files;
 
 const USAGE: &str = "\
 usage: twin frames DIR          write the reader's cases to DIR/frames
        twin announcements DIR   write the writer's cases to DIR/announcements
        twin events DIR          write the table's events to DIR/events
-       twin seek                ask who sees an address, as standard input says
-       twin spot                ask whether link information names it, as standard input says
        twin help                show this text
-The text expected for the cases goes to DIR/stdout. Seek and spot print one number.";
+The text expected for the cases goes to DIR/stdout.";
 
 fn main() -> ExitCode {
     let arguments: Vec<_> = env::args_os().skip(1).collect();
@@ -27,8 +25,6 @@ fn main() -> ExitCode {
             println!("{USAGE}");
             ExitCode::SUCCESS
         }
-        [Some("seek")] => answer(clock::seek),
-        [Some("spot")] => answer(clock::spot),
         [Some(kind), _] => match files(kind) {
             Some((case_file, expected)) => write_files(&arguments[1], kind, &case_file, &expected),
             None => misused(),
@@ -40,18 +36,6 @@ fn main() -> ExitCode {
 fn misused() -> ExitCode {
     eprintln!("{USAGE}");
     ExitCode::from(2)
-}
-
-/// Prints the number that the questions in standard input come to.
-fn answer(asked: fn(&[u8]) -> usize) -> ExitCode {
-    let mut input = Vec::new();
-    match io::stdin().read_to_end(&mut input) {
-        Ok(_) => {
-            println!("{}", asked(&input));
-            ExitCode::SUCCESS
-        }
-        Err(error) => failed(&error),
-    }
 }
 
 fn write_files(directory: &OsStr, name: &str, case_file: &[u8], expected: &str) -> ExitCode {

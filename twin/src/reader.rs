@@ -14,12 +14,12 @@ pub type Refusal = u8;
 pub type Address = [u8; 6];
 
 const BAD_HEADER: Refusal = 3;
-const BAD_LEADING_TLV: Refusal = 4;
-const RUNS_OUT: Refusal = 5;
-const BAD_LATER_TLV: Refusal = 6;
+pub(crate) const BAD_LEADING_TLV: Refusal = 4;
+pub(crate) const RUNS_OUT: Refusal = 5;
+pub(crate) const BAD_LATER_TLV: Refusal = 6;
 
 const LONGEST_FRAME: usize = 1514;
-const LONGEST_DESCRIPTION: usize = 255;
+pub(crate) const LONGEST_DESCRIPTION: usize = 255;
 const EVERYONE: Address = [0xFF; 6];
 const NEAREST: Address = [0x01, 0x80, 0xC2, 0x00, 0x00, 0x0E];
 const LLDP_TYPE: [u8; 2] = [0x88, 0xCC];
@@ -86,7 +86,7 @@ pub struct Naming {
 }
 
 impl Naming {
-    fn of(interface: &[u8], number: &[u8]) -> Naming {
+    pub(crate) fn of(interface: &[u8], number: &[u8]) -> Naming {
         Naming { interface: counted(interface), number: counted(number) }
     }
 }
@@ -321,7 +321,7 @@ fn device_of(body: &[u8]) -> Option<Field> {
 
 /// The string lengths that an ID allows (T3, T4). Reserved IDs are skipped whatever their length is
 /// (T5).
-fn lengths_of(id: u8) -> RangeInclusive<u8> {
+pub(crate) fn lengths_of(id: u8) -> RangeInclusive<u8> {
     match id {
         CATEGORY => 1..=255,
         MANUFACTURER => 1..=6,
@@ -375,7 +375,7 @@ fn text_of(later: &[Tlv], kind: u8) -> Vec<u8> {
 }
 
 /// Exactly four octets, two for each set, high octet first (S2).
-fn capabilities_of(value: &[u8]) -> Option<Capabilities> {
+pub(crate) fn capabilities_of(value: &[u8]) -> Option<Capabilities> {
     match *value {
         [a, b, c, d] => Some(Capabilities {
             can: u16::from_be_bytes([a, b]),

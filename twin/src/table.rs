@@ -31,13 +31,13 @@ pub const COMMON: usize = common(PORTS);
 pub const MOST_OF_A_CHASSIS: usize = 3;
 
 /// The sender of a free place (N4); a used place may have it too (N5).
-const ZEROS: Address = [0; 6];
+pub(crate) const ZEROS: Address = [0; 6];
 
-const UNFIT: Refusal = 1;
+pub(crate) const UNFIT: Refusal = 1;
 const NO_SUCH_PORT: Refusal = 2;
-const PORT_HOLDS_SIX: Refusal = 7;
-const COMMON_TAKEN: Refusal = 8;
-const CHASSIS_HOLDS_THREE: Refusal = 13;
+pub(crate) const PORT_HOLDS_SIX: Refusal = 7;
+pub(crate) const COMMON_TAKEN: Refusal = 8;
+pub(crate) const CHASSIS_HOLDS_THREE: Refusal = 13;
 
 /// The places of a cell with so many ports (N1).
 pub const fn places(ports: usize) -> usize {
@@ -361,7 +361,7 @@ fn held_among(records: &[Identity], port: usize, chassis: &Id) -> usize {
     records.iter().filter(is_of_it).count()
 }
 
-fn judge_port(port: usize) -> Result<(), Refusal> {
+pub(crate) fn judge_port(port: usize) -> Result<(), Refusal> {
     (port < PORTS).then_some(()).ok_or(NO_SUCH_PORT)
 }
 

@@ -8,11 +8,11 @@ use crate::id::Id;
 use crate::numbers::*;
 use crate::reader::{Capabilities, Refusal};
 
-const BREAKS_A_RULE: Refusal = 9;
-const NO_ROOM: Refusal = 10;
+pub(crate) const BREAKS_A_RULE: Refusal = 9;
+pub(crate) const NO_ROOM: Refusal = 10;
 
-const LONGEST_LLDPDU: usize = 1500;
-const LONGEST_VALUE: usize = 511;
+pub(crate) const LONGEST_LLDPDU: usize = 1500;
+pub(crate) const LONGEST_VALUE: usize = 511;
 
 /// What is to be written. Its strings are parts of a text, or octets of their own; an absent string
 /// is empty (A2), but an absent table is not an empty one, nor are absent capabilities such with no
@@ -91,7 +91,7 @@ pub struct Part {
 impl Part {
     /// None if the part lies outside the text (W7). Start and length are never added up, so nothing
     /// wraps; an empty part may begin where the text ends.
-    fn of(self, text: &[u8]) -> Option<&[u8]> {
+    pub(crate) fn of(self, text: &[u8]) -> Option<&[u8]> {
         let start = usize::try_from(self.start).ok()?;
         let len = usize::try_from(self.len).ok()?;
         text.get(start..)?.get(..len)

@@ -4,9 +4,9 @@ use Prim.{Unit, tt}
 use Prim.Native.Nat.{ℕ, _+_, _*_, _<_, _≤_}
 use mathlib.Core.Path.{_≡_, refl}
 use mathlib.Core.List.{List, [], _∷_}
-use mathlib.Core.Bool.{Bool, true, false}
+use mathlib.Core.Bool.{Bool, true, false, not}
 use native.Mathlib.Omega.{arith}
-use borrow.Author.Tests.{eqb-true, leb-true}
+use borrow.Author.Tests.{eqb-true, leb-true, not-true, ne-eqb}
 use lib.ListN.{length, drop, getD, length-drop}
 use lib.Dec.{leb, ltb, eqb}
 use Rattle.tally.specs.Tests.{pick, both, all}
@@ -15,7 +15,7 @@ use Rattle.strings.specs.Text.{textOk}
 use Rattle.strings.specs.Wants.{wantedOf}
 use Rattle.fields.specs.Device.{onWanted, deviceOf}
 use Rattle.links.specs.Link.{linkOk, listOk}
-use Rattle.fields.specs.Field.{link, extension, systemName, systemDescription, capabilities, management, descriptionOf, managementOk, managementOf, linkOf, listOf, extensionOf, isTtc, ttcOf, fieldOf}
+use Rattle.fields.specs.Field.{link, extension, systemName, systemDescription, capabilities, management, descriptionOf, managementOk, managementOf, linkOf, listOf, extensionOf, isTtc, ttcOf, unread, fieldOf}
 use Rattle.links.proofs.LinkLaws.{link-has}
 use Rattle.extension.specs.Layout.{extensionOk}
 use Rattle.extension.proofs.LayoutLaws.{fits-some}
@@ -50,7 +50,7 @@ fits-on b Malformed h = tt
 fits-on b (Says topic skip) h = record { known = omega (arith, h .known); inside = h .inside; linked = h .linked; extended = h .extended }
 
 -- only IDs 1 to 4 want a text
-wanted-small : (id most : ℕ) → wantedOf id ≡ Text most → id < link
+pub wanted-small : (id most : ℕ) → wantedOf id ≡ Text most → id < link
 unfolding wantedOf
 wanted-small id most e = go (eqb id 1) refl (eqb id 2) refl (both (leb 3 id) (leb id 4)) refl (eqb id 255) e
   where
@@ -145,3 +145,18 @@ module _ (b : List ℕ) where
       (fits-pick management b (eqb kind 7) (Says capabilities 0) _ (λ t. whole-fits capabilities (omega arith) (omega arith))
       (fits-pick management b (eqb kind 8) (managementOf b) _ (λ t. management-fits)
       (fits-pick management b (both (eqb kind 127) (isTtc b)) (ttcOf b) Skipped (λ t. fits-on b (ttcOf b) ttc-fits) tt)))))
+
+-- a TLV that is unread says nothing
+pub unread-skipped : (kind : ℕ) (b : List ℕ) → unread kind b ≡ true → fieldOf kind b ≡ Skipped
+unfolding unread fieldOf
+unread-skipped kind b e =
+    let w = both-true (leb 9 kind) (not (both (eqb kind 127) (isTtc b))) e in
+    let high = leb-true 9 kind (w .0) in
+    rw (
+      ne-eqb kind 4 (λ q. omega arith),
+      ne-eqb kind 5 (λ q. omega arith),
+      ne-eqb kind 6 (λ q. omega arith),
+      ne-eqb kind 7 (λ q. omega arith),
+      ne-eqb kind 8 (λ q. omega arith),
+      not-true (both (eqb kind 127) (isTtc b)) (w .1),
+    )

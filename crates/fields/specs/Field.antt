@@ -2,7 +2,7 @@
 -- It is skipped, not well formed, or has the content of a topic behind some octets of b.
 use Prim.Native.Nat.{ℕ}
 use mathlib.Core.List.{List, [], _∷_}
-use mathlib.Core.Bool.{Bool}
+use mathlib.Core.Bool.{Bool, not}
 use lib.ListN.{length, drop, getD}
 use lib.Dec.{leb, eqb}
 use Rattle.tally.specs.Tests.{pick, both, all}
@@ -90,6 +90,10 @@ ttcOf b =
     (pick (eqb (getD b 3 0) 2) (linkOf b)
     (pick (eqb (getD b 3 0) 3) (listOf b)
     (pick (eqb (getD b 3 0) 4) (extensionOf b) Skipped)))
+
+-- above type 8 only TTC fields are read (L9, T1)
+unfoldable pub unread : ℕ → List ℕ → Bool
+unread kind b = both (leb 9 kind) (not (both (eqb kind 127) (isTtc b)))
 
 -- by the type (L9); types 5 to 7 whatever their length, since the first of each decides (S4)
 unfoldable pub fieldOf : ℕ → List ℕ → Field

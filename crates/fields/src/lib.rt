@@ -3,7 +3,7 @@
 ghost use mathlib.Core.Path.{_≡_};
 ghost use Rattle.tally.specs.Tests.{pick};
 ghost use Rattle.fields.specs.Device.{deviceOf};
-ghost use Rattle.fields.specs.Field.{descriptionOf, managementOk, linkOf, listOf, extensionOf, isTtc, ttcOf, fieldOf};
+ghost use Rattle.fields.specs.Field.{descriptionOf, managementOk, linkOf, listOf, extensionOf, isTtc, ttcOf, unread, fieldOf};
 ghost use Rattle.fields.specs.declared.Field.the-variants.{Skipped, Malformed, Says};
 use extension::extension_fits;
 use links::link_fits;
@@ -152,7 +152,7 @@ fn extension(part: &[u8]) -> Field
 }
 
 // The organization code E0-27-1A (T1).
-fn is_ttc(part: &[u8]) -> bool
+pub fn is_ttc(part: &[u8]) -> bool
     ensures { λ r. ⌜ r ≡ isTtc (now (part .entry)) ⌝ }
 {
     if octet(part, 0) != 0xE0 {
@@ -176,6 +176,19 @@ fn ttc(part: &[u8]) -> Field
         4 => extension(part),
         _ => Field::Skipped,
     }
+}
+
+// Whether nothing of a TLV is read: its type is above 8, and it is no TTC field (L9, T1).
+pub fn is_unread(kind: u8, part: &[u8]) -> bool
+    ensures { λ r. ⌜ r ≡ unread kind (now (part .entry)) ⌝ }
+{
+    if kind <= 8 {
+        return false;
+    }
+    if kind != 127 {
+        return true;
+    }
+    !is_ttc(part)
 }
 
 // What a TLV of a type says, given its information string. Types 5 to 7 are noted whatever their length: the first of each decides (S4).

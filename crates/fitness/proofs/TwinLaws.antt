@@ -6,19 +6,21 @@ use mathlib.Core.Logic.{_≢_}
 use mathlib.Core.Bool.{Bool, true, false, not}
 use mathlib.Core.List.{List}
 use native.Mathlib.Omega.{arith}
-use borrow.Author.Tests.{eq-eqb, ne-eqb, eqb-false, not-true}
-use lib.Dec.{eqb}
+use borrow.Author.Tests.{eq-eqb, ne-eqb, eqb-false, leb-true}
+use lib.Dec.{leb, eqb}
 use lib.ListN.{getD}
 use Rattle.tally.specs.Tests.{pick}
 use Rattle.tally.proofs.TestsLaws.{both-true}
 use Rattle.tally.specs.Ranges.{allBelow}
-use Rattle.tally.proofs.RangesLaws.{all-true, all-each, all-more, all-stop}
+use Rattle.tally.specs.Counts.{count}
+use Rattle.tally.proofs.RangesLaws.{all-each, all-more, all-stop}
 use Rattle.rules.specs.Identity.{same}
 use Rattle.rules.proofs.IdentityLaws.{same-true}
 use Rattle.numbers.specs.Sizes.{places}
 use Rattle.place.specs.State.{State, at, used, whoAt, isOf}
 use Rattle.fitness.specs.Fit.{single}
 use Rattle.marks.specs.Marks.{identityMark, markAt, alike, apart, Marked}
+use Rattle.fitness.proofs.ReachLaws.{count-passed}
 
 -- behind the marks
 module _ (s : State) (marks : List ℕ) (h : Marked s marks) (i j : ℕ) (a : i < places) (b : j < places) (u : at s i .len ≢ 0) where
@@ -37,16 +39,13 @@ module _ (s : State) (marks : List ℕ) (h : Marked s marks) (i j : ℕ) (a : i 
       go true e = absurd (d (one-mark (both-true (used (at s j)) (same (whoAt (at s j)) (whoAt (at s i))) e)))
       go false e = e
 
--- the loop over the places below i, for their marks and for their identities: it ends at a hit, or has met none; a free place is not asked
+-- the loop over the places below i: it ends at a hit, or has met none; a free place is not asked
 module _ (hit : ℕ → Bool) (i n : ℕ) where
   abbrev pub Clear : ℕ → Type 0
   Clear j = allBelow (λ k. not (hit k)) j ≡ true
 
   abbrev test : Bool
   test = pick (eqb n 0) true (allBelow (λ k. not (hit k)) i)
-
-  pub clear-free : n ≡ 0 → true ≡ test
-  clear-free e = sym (rw (eq-eqb n 0 e))
 
   module _ (u : n ≢ 0) where
     pub clear-hit : (j : ℕ) → j < i → hit j ≡ true → false ≡ test
@@ -58,7 +57,7 @@ module _ (hit : ℕ → Bool) (i n : ℕ) where
   pub clear-more : (j : ℕ) → Clear j → hit j ≡ false → Clear (j + 1)
   clear-more j h e = all-more (λ k. not (hit k)) j h (ap not e)
 
--- a place that its mark tells apart has an identity of its own
+-- a place whose mark is its own has an identity of its own: of two that are alike both are counted
 pub apart-single : (s : State) (marks : List ℕ) → Marked s marks → (i : ℕ) → i < places → apart marks i (at s i .len) ≡ true → single s i ≡ true
 unfolding apart single
 apart-single s marks h i a e = go (eqb (at s i .len) 0) refl e
@@ -66,11 +65,14 @@ apart-single s marks h i a e = go (eqb (at s i .len) 0) refl e
     twin : ℕ → Bool
     twin = isOf s (whoAt (at s i))
 
-    go : (b : Bool) → eqb (at s i .len) 0 ≡ b → pick b true (allBelow (λ j. not (alike marks i j)) i) ≡ true → pick b true (allBelow (λ j. not (twin j)) i) ≡ true
+    other : (j : ℕ) → j < i → leb (count (alike marks i) places) 1 ≡ true → getD marks j 0 ≢ getD marks i 0
+    other j l q d =
+        let hit = eq-eqb (getD marks j 0) (getD marks i 0) d in
+        let own = eq-eqb (getD marks i 0) (getD marks i 0) refl in
+        omega (arith, leb-true (count (alike marks i) places) 1 q, count-passed (alike marks i) j i l hit, count-passed (alike marks i) i places a own)
+
+    go : (b : Bool) → eqb (at s i .len) 0 ≡ b → pick b true (leb (count (alike marks i) places) 1) ≡ true → pick b true (allBelow (λ j. not (twin j)) i) ≡ true
     go true d q = refl
     go false d q =
         all-each (λ j. not (twin j)) i
-        (λ j l.
-        ap not
-        (mark-differs s marks h i j a (omega arith) (eqb-false (at s i .len) 0 d)
-        (eqb-false (getD marks j 0) (getD marks i 0) (not-true (alike marks i j) (all-true (λ k. not (alike marks i k)) i q j l)))))
+        (λ j l. ap not (mark-differs s marks h i j a (omega arith) (eqb-false (at s i .len) 0 d) (other j l q)))

@@ -15,10 +15,11 @@ use Rattle.fields.specs.Field.{management, fieldOf}
 use Rattle.fields.specs.declared.Field.{Field}
 use Rattle.fields.specs.declared.Field.the-variants.{Skipped, Malformed, Says}
 use Rattle.fields.proofs.FieldLaws.{Fits, field-fits}
-use Rattle.walk.specs.Walk.{headOf, stepOf, Walked, walk}
-use Rattle.found.specs.Found.{markedAt, markOf, noted, gather}
+use Rattle.walk.specs.Walk.{headOf, stepOf, walk}
+use Rattle.found.specs.Found.{markedAt, markOf, noted, gather, surveyBy}
 use Rattle.walk.proofs.WalkLaws.{walk-refused, walk-end, walk-next, next-fits}
 use Rattle.walk.specs.declared.Step.the-variants as step
+use Rattle.walk.specs.declared.Extent.the-variants.{Refused, Octets}
 use Rattle.found.specs.declared.Mark.{Mark}
 use Rattle.found.specs.declared.Found.{Found}
 
@@ -62,21 +63,23 @@ module _ (f : Found) (start len : ℕ) {x : Field} where
 -- The loop
 
 module _ (s : List ℕ) (at : ℕ) (f : Found) where
-  pub gather-refused : {n : ℕ} → stepOf (headOf (drop at s)) at ≡ step.Refused n → gather f (walk (drop at s) 0 at .tlvs) ≡ f
-  unfolding gather
-  gather-refused e = ap (λ (w : Walked). gather f (w .tlvs)) (walk-refused s at e)
+  pub survey-refused : {n : ℕ} → stepOf (headOf (drop at s)) at ≡ step.Refused n
+      → surveyBy f (walk (drop at s) 0 at) ≡ record { extent = Refused n; found = f }
+  unfolding surveyBy gather
+  survey-refused e = ap (surveyBy f) (walk-refused s at e)
 
-  pub gather-end : {end : ℕ} → stepOf (headOf (drop at s)) at ≡ step.End end → gather f (walk (drop at s) 0 at .tlvs) ≡ f
-  unfolding gather
-  gather-end e = ap (λ (w : Walked). gather f (w .tlvs)) (walk-end s at e)
+  pub survey-end : {end : ℕ} → stepOf (headOf (drop at s)) at ≡ step.End end
+      → surveyBy f (walk (drop at s) 0 at) ≡ record { extent = Octets end; found = f }
+  unfolding surveyBy gather
+  survey-end e = ap (surveyBy f) (walk-end s at e)
 
   module _ {kind start len : ℕ} (e : stepOf (headOf (drop at s)) at ≡ step.Next kind start len) where
-    pub gather-next : gather f (walk (drop at s) 0 at .tlvs)
-        ≡ gather (noted f (fieldOf kind (take len (drop start s))) start len) (walk (drop (start + len) s) 0 (start + len) .tlvs)
-    unfolding gather
-    gather-next =
-        ap (λ (w : Walked). gather f (w .tlvs)) (walk-next s at e)
-        ∙ ap (λ (n : ℕ). gather (noted f (fieldOf kind (take len (drop start s))) start n) (walk (drop (start + len) s) 0 (start + len) .tlvs))
+    pub survey-next : surveyBy f (walk (drop at s) 0 at)
+        ≡ surveyBy (noted f (fieldOf kind (take len (drop start s))) start len) (walk (drop (start + len) s) 0 (start + len))
+    unfolding surveyBy gather
+    survey-next =
+        ap (surveyBy f) (walk-next s at e)
+        ∙ ap (λ (n : ℕ). surveyBy (noted f (fieldOf kind (take len (drop start s))) start n) (walk (drop (start + len) s) 0 (start + len)))
         (body-length s start len (next-fits s at e))
 
     pub next-within : Within (fieldOf kind (take len (drop start s))) len

@@ -9,11 +9,12 @@ use Rattle.tally.specs.Tests.{pick, all}
 use Rattle.fields.specs.Field.{category, manufacturer, modelName, modelNumber, topics, management, fieldOf}
 use Rattle.fields.specs.declared.Field.{Field}
 use Rattle.fields.specs.declared.Field.the-variants.{Skipped, Malformed, Says}
-use Rattle.walk.specs.Walk.{Placed}
+use Rattle.walk.specs.Walk.{Placed, Walked}
 use Rattle.text.specs.Part.{part, emptyParts, withPart}
 use Rattle.text.specs.declared.Part.{Part}
 use Rattle.found.specs.declared.Mark.{Mark}
 use Rattle.found.specs.declared.Found.{Found}
+use Rattle.found.specs.declared.Survey.{Survey}
 
 abbrev pub unmarked : Mark
 unmarked = record { times = 0; start = 0; len = 0 }
@@ -46,6 +47,10 @@ noted f (Says topic skip) start len =
 unfoldable pub gather : Found → List Placed → Found
 gather f [] = f
 gather f (p ∷ ps) = gather (noted f (fieldOf (p .tlv .kind) (p .tlv .body)) (p .start) (length (p .tlv .body))) ps
+
+-- the walk as the code goes it: its extent, and what is found with what its TLVs say
+unfoldable pub surveyBy : Found → Walked → Survey
+surveyBy f w = record { extent = w .extent; found = gather f (w .tlvs) }
 
 -- H1, from the marks
 unfoldable pub htipIn : Found → Bool

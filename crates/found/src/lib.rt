@@ -2,28 +2,39 @@
 // and where the management addresses are. A content is remembered as its place in the LLDPDU, so that nothing is copied.
 ghost use mathlib.Core.Path.{_≡_};
 ghost use lib.ListN.{drop};
+ghost use Rattle.fields.specs.Field.{fieldOf};
 ghost use Rattle.walk.specs.Walk.{walk};
-ghost use Rattle.found.specs.Found.{nothing, partAt, markedAt, gather, htipIn};
+ghost use Rattle.found.specs.Found.{nothing, partAt, markedAt, surveyBy, htipIn};
 use fields::Field;
 use fields::field_of;
+use fields::is_unread;
 use text::Part;
 use text::Parts;
 use text::empty_parts;
 use text::with_part;
+use walk::Extent;
 use walk::Step;
 use walk::step_at;
 
-// What was met of a topic: how often, up to twice, and where its first content lies.
+// What was met of a topic: how often, up to twice, and where its first content lies. The count is as wide as the rest, since
+// a gap behind a narrow one is copied octet by octet.
 pub struct Mark {
-    pub times: u8,
+    pub times: usize,
     pub start: usize,
     pub len: usize,
 }
 
+// The flag stands last, where no gap behind it comes before anything else.
 pub struct Found {
     pub marks: [Mark; fields::TOPICS],
-    pub malformed: bool,
     pub management: Parts,
+    pub malformed: bool,
+}
+
+// The walk behind the first three TLVs: where it ends or why it is refused, and what was found on the way.
+pub struct Survey {
+    pub extent: Extent,
+    pub found: Found,
 }
 
 // The part of the LLDPDU that a mark delimits.
@@ -67,24 +78,36 @@ fn nothing_found() -> Found
     }
 }
 
-// The fields from a place on, to End. What was found is changed where it stands, since to hand it on costs more than to read a TLV.
-pub fn gathered(s: &[u8], from: usize) -> Found
-    ensures { λ r. ⌜ r ≡ gather nothing (walk (drop from (now (s .entry))) 0 from .tlvs) ⌝ }
+// What a TLV says. Most TLVs that strangers send are unread, and the test for that is cheap beside a call of field_of.
+fn said(kind: u8, part: &[u8]) -> Field
+    ensures { λ r. ⌜ r ≡ fieldOf kind (now (part .entry)) ⌝ }
+{
+    if is_unread(kind, part) {
+        return Field::Skipped;
+    }
+    field_of(kind, part)
+}
+
+// The TLVs from a place on, to End. What was found is changed where it stands, since to hand it on costs more than to read a TLV.
+pub fn gathered(s: &[u8], from: usize) -> Survey
+    ensures { λ r. ⌜ r ≡ surveyBy nothing (walk (drop from (now (s .entry))) 0 from) ⌝ }
 {
     let mut at = from;
     let mut found = nothing_found();
     loop {
         match step_at(s, at) {
-            Step::Refused(_) => {
-                return found;
+            Step::Refused(n) => {
+                let extent = Extent::Refused(n);
+                return Survey { extent, found };
             }
-            Step::End(_) => {
-                return found;
+            Step::End(end) => {
+                let extent = Extent::Octets(end);
+                return Survey { extent, found };
             }
             Step::Next { kind, start, len } => {
                 let end = start + len;
                 at = end;
-                match field_of(kind, &s[start..end]) {
+                match said(kind, &s[start..end]) {
                     Field::Skipped => {
                         continue;
                     }
@@ -93,7 +116,6 @@ pub fn gathered(s: &[u8], from: usize) -> Found
                         continue;
                     }
                     Field::Says { topic, skip } => {
-                        // where the content begins, and how many octets it has
                         let b = start + skip;
                         let n = len - skip;
                         if topic == fields::MANAGEMENT {

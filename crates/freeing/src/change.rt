@@ -1,9 +1,13 @@
 // Seconds passed (N8) and a lost link (N9): both change each record by itself, so one loop serves both.
 // What happens to a record is one case of the enum.
 ghost use mathlib.Core.Path.{_≡_};
-ghost use lib.ListN.{length};
+ghost use mathlib.Core.Bool.{true};
+ghost use mathlib.Core.List.{_++_};
+ghost use Prim.Native.Nat.{_+_, _*_, _≤_, _<_};
+ghost use lib.ListN.{length, take, drop, replicate};
 ghost use Rattle.numbers.specs.Sizes.{places};
-ghost use Rattle.place.specs.State.{octets, state, each};
+ghost use Rattle.place.specs.State.{size, octets, state, each};
+ghost use Rattle.fitness.specs.Fit.{fit};
 ghost use Rattle.freeing.specs.Changes.{fateOf, changed};
 ghost use Rattle.fitness.specs.Refusals.{refusalWhenUnfit, refusalOnPort};
 ghost use Rattle.freeing.specs.Calls.{Does, passed, linkLost};
@@ -15,8 +19,10 @@ use fitness::UNFIT;
 use fitness::is_fit;
 use numbers::PLACES;
 use numbers::PORTS;
+use numbers::Sender;
 use numbers::Table;
-use place::release;
+use place::SIZE;
+use whole::clear;
 
 pub(crate) enum Change {
     Age(u16),
@@ -52,15 +58,31 @@ fn fate_of(change: Change, n: u16, p: u8, left: u16) -> Fate
     }
 }
 
+// The octets of the record that place i keeps become 0. Behind them a fit table has zeros (N5), so that the place has zeros alone (N4).
+fn clear_record(buffer: &mut [u8], i: usize, kept: u16)
+    requires { ⌜ (i < places) × ((length (now buffer) ≡ octets) × (kept ≤ size)) ⌝ }
+    ensures { λ _. ⌜ now (buffer .exit) ≡ take (i * size) (now (buffer .entry)) ++ (replicate kept 0 ++ drop (i * size + kept) (now (buffer .entry))) ⌝ }
+{
+    let from = i * SIZE;
+    let to = from + kept as usize;
+    clear(&mut buffer[from..to]);
+}
+
+// A place that goes is freed here: a call that takes the table and gives it back would copy it each time.
 fn change_all(t: Table, buffer: &mut [u8], change: Change) -> Table
-    requires { ⌜ length (now buffer) ≡ octets ⌝ }
+    requires { ⌜ fit (state t (now buffer)) ≡ true ⌝ }
     ensures { λ r. ⌜ state r (now (buffer .exit)) ≡ each (changed change) places (state t (now (buffer .entry))) ⌝ }
 {
     let mut u = t;
+    let nobody = Sender { octets: [0; 6] };
     for i in 0..PLACES {
         match fate_of(change, u.length[i], u.port[i], u.seconds[i]) {
             Fate::Goes => {
-                u = release(u, buffer, i);
+                clear_record(buffer, i, u.length[i]);
+                u.port[i] = 0;
+                u.seconds[i] = 0;
+                u.length[i] = 0;
+                u.sender[i] = nobody;
             }
             Fate::Stays(left) => {
                 u.seconds[i] = left;

@@ -12,7 +12,7 @@ use lib.Dec.{eqb, ltb, leb}
 use Rattle.tally.specs.Tests.{pick, both, all}
 use Rattle.tally.specs.Due.{firstDue}
 use Rattle.tally.proofs.TestsLaws.{not-below, below-or-at}
-use Rattle.lldpdu.specs.Extent.{extentOf}
+use Rattle.lldpdu.specs.Extent.{octetsIn, extentOf}
 use Rattle.lldpdu.specs.Outline.{refusedOutline, outlineAt, outlineOf}
 use Rattle.ids.specs.Id.{idMeant}
 use Rattle.walk.specs.declared.Extent.{Extent}
@@ -73,12 +73,16 @@ module _ (n : ℕ) (w : Ident) (x : Place) (s : State) where
   unfolding heardNew
   new-room u e d = rw (ne-eqb n 0 u, room-share s w, sym e ∙ d)
 
--- what the code has of an LLDPDU l, by its outline
-module _ (p : ℕ) (sender l : List ℕ) (s : State) {o : Outline} (e : o ≡ outlineOf l) where
+-- an extent that is no refusal says so itself
+pub is-octets : {x : Extent} {e : ℕ} → x ≡ extent-is.Octets e → x ≡ extent-is.Octets (octetsIn x)
+is-octets q = q ∙ ap (λ (y : Extent). extent-is.Octets (octetsIn y)) (sym q)
+
+-- what the code has of a valid LLDPDU l, by its outline
+module _ (p : ℕ) (sender l : List ℕ) (s : State) {o : Outline} (e : o ≡ outlineOf l) {n : ℕ} (v : o .extent ≡ extent-is.Octets n) where
   -- k is the place that the code found for its identity
   module _ {k : ℕ} (q : k ≡ find s (ident p (idMeant l (o .chassis)) (idMeant l (o .port)))) where
     found : k ≡ find s (whoseIn p l)
-    found = q ∙ ap (find s) (outline-ident p l e)
+    found = q ∙ ap (find s) (outline-ident l e v p)
 
     pub saying-known : k < places → heardAt k (o .seconds) (keep p (o .seconds) sender l) s ≡ heardSaying p (said sender l) s
     unfolding heardSaying

@@ -5,6 +5,8 @@ ghost use Prim.Native.Nat.{_≤_, _<_};
 ghost use mathlib.Core.Bool.{true};
 ghost use lib.ListN.{length};
 ghost use Rattle.ids.specs.Id.{idMeant};
+ghost use Rattle.walk.specs.declared.Extent.the-variants.{Octets};
+ghost use Rattle.lldpdu.specs.Extent.{octetsIn};
 ghost use Rattle.lldpdu.specs.Outline.{outlineOf};
 ghost use Rattle.numbers.specs.Sizes.{ports, places};
 ghost use Rattle.place.specs.State.{size, octets, state, keep, find, ident, chassisIn, whoseIn, said};
@@ -118,7 +120,7 @@ fn hear_new(
 
 // What an LLDPDU l that is valid does; o is its outline.
 fn hear(t: Table, buffer: &mut [u8], p: u8, o: Outline, sender: [u8; 6], l: &[u8]) -> Reception
-    requires { ⌜ (fit (state t (now buffer)) ≡ true) × ((p < ports) × ((length (now l) ≤ size) × (o ≡ outlineOf (now l)))) ⌝ }
+    requires { ⌜ (fit (state t (now buffer)) ≡ true) × ((p < ports) × ((length (now l) ≤ size) × ((o ≡ outlineOf (now l)) × (o .extent ≡ Octets (octetsIn (o .extent)))))) ⌝ }
     ensures { λ r. ⌜ told r (now (buffer .exit)) ≡ heardSaying p (said sender (now (l .entry))) (state t (now (buffer .entry))) ⌝ }
 {
     let k = place_of(t, buffer, p, l, o.chassis, o.port);

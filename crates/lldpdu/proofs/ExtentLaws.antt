@@ -1,6 +1,6 @@
--- Laws of the extent: one of the first three TLVs by what its header is, and a valid LLDPDU as a record of facts.
+-- Laws of the extent: a whole TLV and its ID, and a valid LLDPDU as a record of facts.
 -- `good` and `reads` pass between the answer and the facts, so that later laws build or take apart a `Good` and nothing else.
-use Prim.Native.Nat.{ℕ, _+_, _-_, _≤_, _<_}
+use Prim.Native.Nat.{ℕ, _+_, _-_, _≤_}
 use mathlib.Core.Path.{_≡_, refl, sym, ap, ap₂, _∙_}
 use mathlib.Core.List.{List}
 use mathlib.Core.Bool.{Bool, true, false}
@@ -13,29 +13,16 @@ use lib.Dec.{eqb}
 use Rattle.tally.specs.Tests.{pick}
 use Rattle.tally.proofs.TestsLaws.{both-true}
 use Rattle.octets.specs.Header.{lengthIn}
-use Rattle.octets.specs.Numbers.{pairOf}
 use Rattle.walk.specs.Walk.{headOf}
-use Rattle.lldpdu.specs.Extent.{lengthAt, portPlace, secondsPlace, idAt, idIn, isChassis, isPort, secondsOk, need, restOf, behindPort, behindChassis, extentOf}
-use Rattle.lldpdu.specs.Outline.{idBetween, Behind, refusedOutline, outlineAt, outlineOf}
-use Rattle.text.specs.Part.{part}
+use Rattle.lldpdu.specs.Extent.{lengthAt, portPlace, secondsPlace, idIn, isChassis, isPort, secondsOk, need, restOf, behindPort, behindChassis, extentOf}
+use Rattle.lldpdu.specs.Outline.{outlineAt, outlineOf}
 use Rattle.ids.specs.Id.{id, chassisOk, portOk}
-use Rattle.ids.specs.declared.IdPart.{IdPart}
 use Rattle.ids.proofs.IdLaws.{chassis-short, port-short}
 use Rattle.walk.proofs.WalkLaws.{whole, whole-fits}
 use Rattle.walk.specs.declared.Head.{Head}
 use Rattle.walk.specs.declared.Head.the-variants.{Short, Whole}
 use Rattle.walk.specs.declared.Extent.{Extent}
 use Rattle.walk.specs.declared.Extent.the-variants.{Refused, Octets}
-
--- One of the first three, in the outline of s: by what the code has of its header h, and of its test
-
-module _ (s : List ℕ) {h r : Head} (p : r ≡ h) (ok : ℕ → ℕ → Bool) (next : Extent) where
-  pub need-short : r ≡ Short → refusedOutline 5 ≡ outlineAt (need h ok next) s
-  need-short e = rw (sym p ∙ e)
-
-  pub need-whole : {kind len : ℕ} → r ≡ Whole kind len → {t b : Bool} → t ≡ ok kind len → t ≡ b
-      → outlineAt (pick b next (Refused 4)) s ≡ outlineAt (need h ok next) s
-  need-whole e q i = rw (sym p ∙ e, sym q ∙ i)
 
 pub not-both : {A : Type 0} {n e : ℕ} → Refused n ≡ Octets e → A
 not-both q = let z : _≡_ {A = ℕ} 0 1 = cc in absurd (omega arith)
@@ -93,53 +80,6 @@ module _ (s : List ℕ) (at : ℕ) {len : ℕ} (n : len ≡ lengthAt s at) where
   pub id-none : len ≡ 0 → length (idIn s at .octets) ≡ 0
   id-none e = ap (λ (k : ℕ). length (take (k - 1) (drop (at + 3) s))) (sym n ∙ e)
 
--- What the code has in hand of TLVs 1 and 2: where the next one begins, and that no sum wraps
-module _ (s : List ℕ) {kind len : ℕ} where
-  pub behind-first : headOf (drop 0 s) ≡ Whole kind len → isChassis s kind ≡ true → (2 + len ≡ portPlace s) × ((1 ≤ lengthAt s 0) × (2 + len < 1000))
-  unfolding portPlace
-  behind-first e q =
-      let n = length-at s 0 e in
-      let h = chassis-length s 0 e (both-true (eqb kind 1) (chassisOk (idIn s 0)) q .1) in
-      (ap (λ (k : ℕ). 2 + k) n, (omega arith, omega (arith, n)))
-
-  pub behind-second : {at : ℕ} → at ≡ portPlace s → 1 ≤ lengthAt s 0 → at < 1000 → headOf (drop at s) ≡ Whole kind len → isPort s kind ≡ true
-      → Behind s at (at + 2 + len)
-  unfolding secondsPlace
-  behind-second {at} p c near e q =
-      let n = length-at s at e in
-      let h = port-length s at e (rw p (both-true (eqb kind 2) (portOk (idIn s (portPlace s))) q .1)) in
-      record {
-        second = p;
-        third = ap (λ (k : ℕ). at + 2 + k) n ∙ ap (λ (k : ℕ). k + 2 + lengthAt s k) p;
-        some = (c, omega arith);
-        inside = whole-fits s at e;
-        near = omega (arith, n);
-      }
-
--- an ID that reaches to the end of its TLV
-pub between-is : (s : List ℕ) (at : ℕ) {end : ℕ} → end ≡ at + 2 + lengthAt s at → idBetween s at end ≡ idAt s at
-between-is s at {end} e =
-    let n : end - at - 3 ≡ lengthAt s at - 1 = omega (arith, e) in
-    ap (λ (k : ℕ). record { subtype = getD s (at + 2) 0; octets = part (at + 3) k }) n
-
--- at TLV 3: the places as sums, and the outline that the code puts together
-module _ (s : List ℕ) {port at : ℕ} (b : Behind s port at) where
-  pub behind-sums : (port ≡ 2 + lengthAt s 0) × (at ≡ port + 2 + lengthAt s port)
-  unfolding portPlace secondsPlace
-  behind-sums = (b .second, b .third ∙ ap (λ (k : ℕ). k + 2 + lengthAt s k) (sym (b .second)))
-
-  pub outline-is : (e : ℕ) {c p : IdPart} {n : ℕ} → c ≡ idBetween s 0 port → p ≡ idBetween s port at → n ≡ pairOf (getD s (at + 2) 0) (getD s (at + 3) 0)
-      → record { extent = Octets e; chassis = c; port = p; seconds = n } ≡ outlineAt (Octets e) s
-  outline-is e x y z =
-      let c = x ∙ between-is s 0 (behind-sums .0) in
-      let p = y ∙ between-is s port (behind-sums .1) ∙ ap (idAt s) (b .second) in
-      let n = z ∙ ap (λ (k : ℕ). pairOf (getD s (k + 2) 0) (getD s (k + 3) 0)) (b .third) in
-      λ i. record { extent = Octets e; chassis = c i; port = p i; seconds = n i }
-
--- the header at a place, where the place is the one that is named
-pub head-there : (s : List ℕ) {at p : ℕ} {h : Head} → h ≡ headOf (drop at s) → at ≡ p → h ≡ headOf (drop p s)
-head-there s e q = e ∙ ap (λ (n : ℕ). headOf (drop n s)) q
-
 -- A valid LLDPDU of e octets
 
 pub record Good (s : List ℕ) (e : ℕ) : Type 0 where
@@ -172,11 +112,11 @@ good s e q =
       rest = c .onward;
     }
 
--- an outline has the extent of its LLDPDU
+-- an outline has the extent that it is made for, and so that of its LLDPDU
+pub extent-at : (x : Extent) (l : List ℕ) → outlineAt x l .extent ≡ x
+extent-at (Refused k) l = refl
+extent-at (Octets e) l = refl
+
 pub outline-extent : (l : List ℕ) → outlineOf l .extent ≡ extentOf l
 unfolding outlineOf
-outline-extent l = go (extentOf l)
-  where
-    go : (x : Extent) → outlineAt x l .extent ≡ x
-    go (Refused k) = refl
-    go (Octets e) = refl
+outline-extent l = extent-at (extentOf l) l

@@ -1,13 +1,12 @@
 -- The outline of an LLDPDU: extent, chassis, port ID and seconds (A1).
 -- What stands beside a refusal is 0 throughout, so that a refusal fixes the whole answer (R12).
-use Prim.Native.Nat.{ℕ, _+_, _-_, _≤_, _<_}
-use mathlib.Core.Path.{_≡_}
+use Prim.Native.Nat.{ℕ, _+_, _-_}
 use mathlib.Core.List.{List}
-use lib.ListN.{length, getD}
+use lib.ListN.{getD}
 use Rattle.octets.specs.Numbers.{pairOf}
 use Rattle.text.specs.Part.{part}
 use Rattle.ids.specs.declared.IdPart.{IdPart}
-use Rattle.lldpdu.specs.Extent.{lengthAt, portPlace, secondsPlace, idAt, extentOf}
+use Rattle.lldpdu.specs.Extent.{portPlace, secondsPlace, idAt, extentOf}
 use Rattle.walk.specs.declared.Extent.{Extent}
 use Rattle.walk.specs.declared.Extent.the-variants.{Refused, Octets}
 use Rattle.lldpdu.specs.declared.outline.Outline.{Outline}
@@ -15,14 +14,6 @@ use Rattle.lldpdu.specs.declared.outline.Outline.{Outline}
 -- the ID in the TLV from a place to its end; where that end is the TLV's own, it is idAt
 abbrev pub idBetween : List ℕ → ℕ → ℕ → IdPart
 idBetween s at end = record { subtype = getD s (at + 2) 0; octets = part (at + 3) (end - at - 3) }
-
--- what the code needs at TLV 3: where TLVs 2 and 3 begin, and that the IDs before it lie inside
-pub record Behind (s : List ℕ) (port at : ℕ) : Type 0 where
-  pub second : port ≡ portPlace s
-  pub third : at ≡ secondsPlace s
-  pub some : (1 ≤ lengthAt s 0) × (1 ≤ lengthAt s port)
-  pub inside : at ≤ length s
-  pub near : at < 2000
 
 abbrev pub noId : IdPart
 noId = record { subtype = 0; octets = part 0 0 }

@@ -53,7 +53,7 @@ pub(crate) fn seconds_fit(kind: u8, len: usize) -> bool
 }
 
 // The TLVs from a place on, to End.
-pub(crate) fn rest_extent(s: &[u8], from: usize) -> Extent
+pub fn rest_extent(s: &[u8], from: usize) -> Extent
     ensures { λ r. ⌜ r ≡ walk (drop from (now (s .entry))) 0 from .extent ⌝ }
 {
     let mut at = from;

@@ -1,24 +1,21 @@
 // The outline of an LLDPDU: validity, identity and seconds, without the fields behind them.
 // TLVs are judged front to back (R11). A refusal carries its number and nothing else: all that stands beside it is 0.
 ghost use mathlib.Core.Path.{_≡_};
-ghost use Prim.Native.Nat.{_+_, _≤_, _<_};
-ghost use lib.ListN.{length};
-ghost use Rattle.lldpdu.specs.Extent.{lengthAt, portPlace, behindPort, behindChassis, extentOf};
-ghost use Rattle.lldpdu.specs.Outline.{idBetween, Behind, refusedOutline, outlineAt, outlineOf};
-use crate::extent::is_chassis;
-use crate::extent::is_port;
+ghost use Prim.Native.Nat.{_+_, _≤_};
+ghost use lib.ListN.{length, drop};
+ghost use Rattle.tally.specs.Tests.{pick};
+ghost use Rattle.walk.specs.Walk.{walk};
+ghost use Rattle.lldpdu.specs.Extent.{extentOf};
+ghost use Rattle.lldpdu.specs.Leading.{frontOf, Led};
+ghost use Rattle.lldpdu.specs.Outline.{idBetween, refusedOutline, outlineAt, outlineOf};
+ghost use Rattle.walk.specs.declared.Extent.the-variants.{Octets};
 use crate::extent::rest_extent;
-use crate::extent::seconds_fit;
+use crate::leading::Leading;
+use crate::leading::leading_of;
 use ids::IdPart;
 use octets::pair;
 use text::Part;
 use walk::Extent;
-use walk::Head;
-use walk::RUNS_PAST;
-use walk::head_at;
-
-// Refusal: one of the first three TLVs is not as it should be (R4).
-const NOT_AS_DUE: u8 = 4;
 
 pub struct Outline {
     pub extent: Extent,
@@ -56,60 +53,54 @@ fn id_between(s: &[u8], at: usize, end: usize) -> IdPart
     }
 }
 
-// TLV 2 begins at port, and TLV 3 at a place behind it.
-fn behind_port(s: &[u8], port: usize, at: usize) -> Outline
-    requires { ⌜ Behind (now s) port at ⌝ }
-    ensures { λ r. ⌜ r ≡ outlineAt (behindPort (now (s .entry))) (now (s .entry)) ⌝ }
+// What the outline says behind a right front, where TLV 2 begins at port and TLV 3 at a place behind it.
+fn outlined(s: &[u8], port: usize, at: usize, length: usize) -> Outline
+    requires { ⌜ Led (now s) port at ⌝ }
+    ensures { λ r. ⌜ r ≡ outlineAt (Octets length) (now (s .entry)) ⌝ }
 {
-    match head_at(s, at) {
-        Head::Short => refused_outline(RUNS_PAST),
-        Head::Whole { kind, len } => {
-            if !seconds_fit(kind, len) {
-                return refused_outline(NOT_AS_DUE);
-            }
-            match rest_extent(s, at + 4) {
-                Extent::Refused(n) => refused_outline(n),
-                Extent::Octets(length) => Outline {
-                    extent: Extent::Octets(length),
-                    chassis: id_between(s, 0, port),
-                    port: id_between(s, port, at),
-                    seconds: pair(s[at + 2], s[at + 3]),
-                },
-            }
-        }
+    Outline {
+        extent: Extent::Octets(length),
+        chassis: id_between(s, 0, port),
+        port: id_between(s, port, at),
+        seconds: pair(s[at + 2], s[at + 3]),
     }
 }
 
-// TLV 2 begins at a place.
-fn behind_chassis(s: &[u8], at: usize) -> Outline
-    requires { ⌜ (at ≡ portPlace (now s)) × ((1 ≤ lengthAt (now s) 0) × (at < 1000)) ⌝ }
-    ensures { λ r. ⌜ r ≡ outlineAt (behindChassis (now (s .entry))) (now (s .entry)) ⌝ }
+// The extent that the TLVs from a place on give, or that place itself, where they are not walked.
+fn rest_if(walked: bool, s: &[u8], from: usize) -> Extent
+    ensures { λ r. ⌜ r ≡ pick walked (walk (drop from (now (s .entry))) 0 from .extent) (Octets from) ⌝ }
 {
-    match head_at(s, at) {
-        Head::Short => refused_outline(RUNS_PAST),
-        Head::Whole { kind, len } => {
-            if is_port(s, at, kind, len) {
-                behind_port(s, at, at + 2 + len)
-            } else {
-                refused_outline(NOT_AS_DUE)
-            }
-        }
+    if walked {
+        rest_extent(s, from)
+    } else {
+        Extent::Octets(from)
+    }
+}
+
+// One function makes both outlines: they differ in whether the rest is walked, and in nothing else.
+fn outline_if(walked: bool, s: &[u8]) -> Outline
+    ensures { λ r. ⌜ r ≡ outlineAt (pick walked (extentOf (now (s .entry))) (frontOf (now (s .entry)))) (now (s .entry)) ⌝ }
+{
+    match leading_of(s) {
+        Leading::Refused(n) => refused_outline(n),
+        Leading::At { port, seconds } => match rest_if(walked, s, seconds + 4) {
+            Extent::Refused(n) => refused_outline(n),
+            Extent::Octets(length) => outlined(s, port, seconds, length),
+        },
     }
 }
 
 pub fn outline_lldpdu(s: &[u8]) -> Outline
     ensures { λ r. ⌜ r ≡ outlineOf (now (s .entry)) ⌝ }
 {
-    match head_at(s, 0) {
-        Head::Short => refused_outline(RUNS_PAST),
-        Head::Whole { kind, len } => {
-            if is_chassis(s, kind, len) {
-                behind_chassis(s, 2 + len)
-            } else {
-                refused_outline(NOT_AS_DUE)
-            }
-        }
-    }
+    outline_if(true, s)
+}
+
+// The outline as far as the first three TLVs give it. Its extent is the place behind them, and who reads the rest goes on from there.
+pub fn outline_front(s: &[u8]) -> Outline
+    ensures { λ r. ⌜ r ≡ outlineAt (frontOf (now (s .entry))) (now (s .entry)) ⌝ }
+{
+    outline_if(false, s)
 }
 
 // The extent alone: refusal 4, 5 or 6, or the number of octets through the End TLV.

@@ -6,13 +6,13 @@ ghost use Rattle.rules.specs.Shares.{chassisIs};
 ghost use Rattle.place.specs.State.{state, lldpduIn, recordPasses, countRecords};
 use ids::IdPart;
 use ids::same_id;
-use lldpdu::outline_lldpdu;
+use lldpdu::chassis_of;
 use numbers::PLACES;
 use numbers::Table;
 use place::lldpdu_at;
 
 // Whether place i, by its own length and port, has a record that was heard on port p from a chassis that is given as a part of a text.
-fn is_by(
+pub fn is_by(
     buffer: &[u8],
     i: usize,
     length: u16,
@@ -30,8 +30,7 @@ fn is_by(
         return false;
     }
     let l = lldpdu_at(buffer, i, length);
-    let o = outline_lldpdu(l);
-    same_id(l, o.chassis, text, chassis)
+    same_id(l, chassis_of(l), text, chassis)
 }
 
 pub fn chassis_held(t: Table, buffer: &[u8], p: u8, text: &[u8], chassis: IdPart) -> u8

@@ -1,46 +1,77 @@
 -- Laws of a place by itself, as the fitness test asks it: each return of the code is one line here.
--- Whether an LLDPDU is whole is asked of its outline, extent first (N5 b, c).
-use Prim.Native.Nat.{ℕ, _-_, _≤_, _<_}
-use mathlib.Core.Path.{_≡_, refl, sym, ap, _∙_}
+-- Whether an LLDPDU is whole is asked of its extent first (N5 b, c).
+use Prim.Native.Nat.{ℕ, zero, suc, _+_, _-_, _*_, _%_, _≤_, _<_}
+use mathlib.Core.Path.{_≡_, refl, sym, ap, ap₂, _∙_}
 use mathlib.Core.Logic.{_≢_}
 use mathlib.Core.Bool.{Bool, true, false, not}
 use mathlib.Core.List.{List, [], _∷_}
 use native.Mathlib.Omega.{arith}
 use borrow.Author.Tests.{eq-eqb, ne-eqb, le-leb, lt-leb, lt-ltb, le-ltb}
 use lib.ListN.{length, getD, take, drop, length-drop}
-use lib.Seq.{take-all}
+use lib.Seq.{take-all, length-take-le}
 use lib.Dec.{leb}
 use Rattle.tally.specs.Tests.{all}
 use Rattle.tally.proofs.TestsLaws.{all-fails}
 use Rattle.octets.specs.Address.{sameOctets, isGroup}
 use Rattle.octets.specs.Numbers.{pairOf}
+use Rattle.octets.proofs.PartLaws.{part-at}
 use Rattle.whole.specs.Whole.{zeros}
-use Rattle.lldpdu.specs.Outline.{outlineOf}
-use Rattle.ids.specs.Id.{idMeant}
+use Rattle.lldpdu.specs.Extent.{lengthAt, portPlace, secondsPlace, idIn, extentOf}
+use Rattle.lldpdu.specs.Leading.{Behind}
+use Rattle.lldpdu.specs.Outline.{secondsIn, outlineAt, outlineOf}
+use Rattle.lldpdu.proofs.ExtentLaws.{good}
+use Rattle.lldpdu.proofs.Stable.{Sized, sized}
 use Rattle.walk.specs.declared.Extent.{Extent}
 use Rattle.walk.specs.declared.Extent.the-variants.{Refused, Octets}
-use Rattle.lldpdu.specs.declared.outline.Outline.{Outline}
 use Rattle.numbers.specs.Sizes.{ports}
-use Rattle.place.proofs.WhoseLaws.{outline-ident}
-use Rattle.place.specs.State.{Place, size, sixZeros, ident}
+use Rattle.place.specs.State.{Place, size, sixZeros, chassisIn, portIdIn, whoseIn}
 use Rattle.marks.specs.PlaceFit.{exactly, freeTests, whole, usedTests, okFree, okUsed, okPlace}
-use Rattle.marks.specs.Marks.{lastOne, lastTwo, identityMark, check, checkFree, checkUsed, checkPlace}
+use Rattle.marks.specs.Marks.{lastOne, lastTwo, chassisMark, identityMark, check, checkFree, checkUsed, checkPlace}
 use Rattle.marks.specs.declared.Check.{Check}
 use Rattle.marks.specs.declared.Check.the-variants.{Unfit, Mark}
 
--- The last octets
+-- The mark, from the octets before TLV 2 and before TLV 3
 
-pub last-none : (l : List ℕ) → length l ≡ 0 → 0 ≡ lastOne l
-last-none [] e = refl
-last-none (x ∷ l) e = absurd (omega arith)
+-- in the octets of the ID in a TLV, where that lies inside
+module _ (l : List ℕ) (at : ℕ) (n : 2 ≤ lengthAt l at) (h : at + 2 + lengthAt l at ≤ length l) where
+  long : length (idIn l at .octets) ≡ lengthAt l at - 1
+  long = length-take-le (lengthAt l at - 1) (drop (at + 3) l) (omega (arith, length-drop (at + 3) l))
 
-pub last-few : (l : List ℕ) → length l < 2 → getD l 0 0 ≡ lastTwo l
-unfolding lastTwo
-last-few l h = sym (rw (lt-ltb (length l) 2 h))
+  last-is : {k : ℕ} → suc k ≡ at + 2 + lengthAt l at → getD l k 0 ≡ lastOne (idIn l at .octets)
+  last-is q = sym (rw long (part-at l (at + 3) (lengthAt l at - 1) (lengthAt l at - 1 - 1) (omega arith) (omega (arith, q))))
 
-pub last-more : (l : List ℕ) → 2 ≤ length l → pairOf (getD l (length l - 2) 0) (getD l (length l - 1) 0) ≡ lastTwo l
-unfolding lastTwo
-last-more l h = sym (rw (le-ltb (length l) 2 h))
+  before-is : {k : ℕ} → suc (suc k) ≡ at + 2 + lengthAt l at → getD l k 0 ≡ getD (idIn l at .subtype ∷ idIn l at .octets) (length (idIn l at .octets) - 1) 0
+  before-is {k} q = sym (rw long (go (lengthAt l at - 1 - 1) refl))
+    where
+      go : (m : ℕ) → lengthAt l at - 1 - 1 ≡ m → getD (idIn l at .subtype ∷ idIn l at .octets) m 0 ≡ getD l k 0
+      go zero d = let z : at + 2 ≡ k = omega (arith, q, d) in ap (λ (x : ℕ). getD l x 0) z
+      go (suc m) d = part-at l (at + 3) (lengthAt l at - 1) m (omega (arith, d)) (omega (arith, q, d))
+
+module _ (l : List ℕ) {e port at : ℕ} (v : extentOf l ≡ Octets e) (b : Behind l port at) where
+  fits : Sized l e
+  fits = sized (good l e v)
+
+  -- the places of the octets
+  pub mark-places : (1 ≤ port) × ((2 ≤ at) × ((port ≤ at) × (at ≤ length l)))
+  mark-places = (
+    omega (arith, fits .second, b .second),
+    (
+      omega (arith, fits .third, b .third),
+      (omega (arith, fits .third, b .second, b .third), omega (arith, fits .seconds, fits .whole-inside, b .third)),
+    ),
+  )
+
+  pub mark-is : (p : ℕ) → pairOf p (getD l (port - 1) 0) * 65536 + pairOf (getD l (at - 2) 0) (getD l (at - 1) 0) % 65536 ≡ identityMark (whoseIn p l)
+  unfolding identityMark chassisMark lastTwo chassisIn portIdIn
+  mark-is p =
+      let inside : secondsPlace l ≤ length l = omega (arith, fits .seconds, fits .whole-inside) in
+      let first : 0 + 2 + lengthAt l 0 ≤ length l = omega (arith, fits .second, fits .third, inside) in
+      let second : portPlace l + 2 + lengthAt l (portPlace l) ≤ length l = omega (arith, fits .third, inside) in
+      ap₂ (λ (x y : ℕ). pairOf p x * 65536 + y % 65536)
+      (last-is l 0 (fits .chassis) first (omega (arith, fits .second, b .second)))
+      (ap₂ pairOf
+      (before-is l (portPlace l) (fits .port) second (omega (arith, fits .third, b .third)))
+      (last-is l (portPlace l) (fits .port) second (omega (arith, fits .third, b .third))))
 
 -- A free place (N5 b)
 
@@ -68,48 +99,47 @@ module _ (p left : ℕ) (sender b : List ℕ) where
 
 -- A used place (N5 c): one test that fails decides, wherever it stands
 
-module _ (p left : ℕ) (l rest : List ℕ) {o : Outline} (e : o ≡ outlineOf l) where
-  -- what is asked of l, whose outline has the extent x
+module _ (p left : ℕ) (l rest : List ℕ) where
+  -- what is asked of l, whose extent is x
   abbrev asked : Extent → List Bool
-  asked x = exactly x (length l) ∷ leb 1 left ∷ leb left (o .seconds) ∷ []
+  asked x = exactly (outlineAt x l .extent) (length l) ∷ leb 1 left ∷ leb left (outlineAt x l .seconds) ∷ []
 
-  whole-by : (x : Extent) → o .extent ≡ x → whole l left ≡ all (asked x)
-  unfolding whole
-  whole-by x q =
-      ap (λ (u : Outline). all (exactly (u .extent) (length l) ∷ leb 1 left ∷ leb left (u .seconds) ∷ [])) (sym e)
-      ∙ ap (λ (u : Extent). all (asked u)) q
+  whole-by : (x : Extent) → extentOf l ≡ x → whole l left ≡ all (asked x)
+  unfolding whole outlineOf
+  whole-by x q = ap (λ (y : Extent). all (asked y)) q
 
   unfit : whole l left ≡ false → Unfit ≡ checkUsed p left l rest
   unfolding checkUsed
   unfit h = sym (rw h)
 
-  pub used-refused : {n : ℕ} → o .extent ≡ Refused n → Unfit ≡ checkUsed p left l rest
+  pub used-refused : {n : ℕ} → extentOf l ≡ Refused n → Unfit ≡ checkUsed p left l rest
   used-refused {n} q = unfit (whole-by (Refused n) q)
 
-  module _ {n : ℕ} (q : o .extent ≡ Octets n) where
-    fails : (k : ℕ) → getD (asked (Octets n)) k true ≡ false → Unfit ≡ checkUsed p left l rest
-    fails k h = unfit (whole-by (Octets n) q ∙ all-fails (asked (Octets n)) k h)
+  pub used-other : {n : ℕ} → extentOf l ≡ Octets n → n ≢ length l → Unfit ≡ checkUsed p left l rest
+  used-other {n} q h = unfit (whole-by (Octets n) q ∙ all-fails (asked (Octets n)) 0 (ne-eqb n (length l) h))
 
-    pub used-other : n ≢ length l → Unfit ≡ checkUsed p left l rest
-    used-other h = fails 0 (ne-eqb n (length l) h)
+  -- l is valid and has exactly its length
+  module _ (v : extentOf l ≡ Octets (length l)) where
+    fails : (k : ℕ) → getD (asked (Octets (length l))) k true ≡ false → Unfit ≡ checkUsed p left l rest
+    fails k h = unfit (whole-by (Octets (length l)) v ∙ all-fails (asked (Octets (length l))) k h)
 
     pub used-over : left < 1 → Unfit ≡ checkUsed p left l rest
     used-over h = fails 1 (lt-leb 1 left h)
 
-    pub used-late : o .seconds < left → Unfit ≡ checkUsed p left l rest
-    used-late h = fails 2 (lt-leb left (o .seconds) h)
+    pub used-late : secondsIn l < left → Unfit ≡ checkUsed p left l rest
+    used-late h = fails 2 (lt-leb left (secondsIn l) h)
 
-    pub in-time : n ≡ length l → 1 ≤ left → left ≤ o .seconds → whole l left ≡ true
-    in-time h k m = whole-by (Octets n) q ∙ rw (eq-eqb n (length l) h, le-leb 1 left k, le-leb left (o .seconds) m)
+    module _ (k : 1 ≤ left) (m : left ≤ secondsIn l) where
+      in-time : whole l left ≡ true
+      in-time = whole-by (Octets (length l)) v ∙ rw (eq-eqb (length l) (length l) refl, le-leb 1 left k, le-leb left (secondsIn l) m)
 
-  module _ (t : whole l left ≡ true) where
-    pub used-rest : zeros rest ≡ false → Unfit ≡ checkUsed p left l rest
-    unfolding checkUsed
-    used-rest z = sym (rw (t, z))
+      pub used-rest : zeros rest ≡ false → Unfit ≡ checkUsed p left l rest
+      unfolding checkUsed
+      used-rest z = sym (rw (in-time, z))
 
-    pub used-fit : {c : ℕ} → zeros rest ≡ true → c ≡ identityMark (ident p (idMeant l (o .chassis)) (idMeant l (o .port))) → Mark c ≡ checkUsed p left l rest
-    unfolding checkUsed
-    used-fit z w = ap Mark (w ∙ ap identityMark (outline-ident p l e)) ∙ sym (rw (t, z))
+      pub used-fit : {c : ℕ} → zeros rest ≡ true → c ≡ identityMark (whoseIn p l) → Mark c ≡ checkUsed p left l rest
+      unfolding checkUsed
+      used-fit z w = ap Mark w ∙ sym (rw (in-time, z))
 
 -- A place
 

@@ -2,7 +2,7 @@
 -- They are for speed; whether a table is fit does not depend on them (N5 d, g).
 use Prim.Native.Nat.{ℕ, _+_, _-_, _*_, _/_, _%_, _<_}
 use mathlib.Core.Path.{_≡_}
-use mathlib.Core.Bool.{Bool, true, not}
+use mathlib.Core.Bool.{Bool, true}
 use mathlib.Core.List.{List, [], _∷_}
 use lib.ListN.{length, getD}
 use lib.Dec.{leb, ltb, eqb}
@@ -21,19 +21,19 @@ use Rattle.marks.specs.declared.Check.{Check}
 use Rattle.marks.specs.declared.Check.the-variants.{Unfit, Mark}
 use Rattle.marks.specs.declared.Marks.{Marks}
 
--- the last octet, wherever it lies; the last two
+-- the last octet, wherever it lies; of an ID the last two, where the subtype stands before its octets
 abbrev pub lastOne : List ℕ → ℕ
 lastOne l = getD l (length l - 1) 0
 
-unfoldable pub lastTwo : List ℕ → ℕ
-lastTwo l = pick (ltb (length l) 2) (getD l 0 0) (pairOf (getD l (length l - 2) 0) (getD l (length l - 1) 0))
+unfoldable pub lastTwo : Id → ℕ
+lastTwo i = pairOf (getD (i .subtype ∷ i .octets) (length (i .octets) - 1) 0) (lastOne (i .octets))
 
 -- of port and chassis, which is the upper half of the mark of an identity; the remainder keeps the lower half below it
 unfoldable pub chassisMark : ℕ → Id → ℕ
 chassisMark p c = pairOf p (lastOne (c .octets))
 
 unfoldable pub identityMark : Ident → ℕ
-identityMark w = chassisMark (w .port) (w .chassis) * 65536 + lastTwo (w .portId .octets) % 65536
+identityMark w = chassisMark (w .port) (w .chassis) * 65536 + lastTwo (w .portId) % 65536
 
 abbrev pub markAt : Place → ℕ
 markAt x = pick (used x) (identityMark (whoAt x)) 0
@@ -60,9 +60,9 @@ pub record Marked (s : State) (marks : List ℕ) : Type 0 where
 abbrev pub alike : List ℕ → ℕ → ℕ → Bool
 alike marks i j = eqb (getD marks j 0) (getD marks i 0)
 
--- place i, of which n octets are kept, is free, or no place below it has its mark
+-- place i, of which n octets are kept, is free, or its mark is its own
 unfoldable pub apart : List ℕ → ℕ → ℕ → Bool
-apart marks i n = pick (eqb n 0) true (allBelow (λ j. not (alike marks i j)) i)
+apart marks i n = pick (eqb n 0) true (leb (count (alike marks i) places) 1)
 
 -- marks i and j agree in port and last chassis octet; the mark of a free place is 0
 abbrev pub kin : List ℕ → ℕ → ℕ → Bool
@@ -75,6 +75,10 @@ few marks i n = pick (eqb n 0) true (leb (count (kin marks i) places) perChassis
 -- the marks leave no question of place i
 abbrev pub settled : List ℕ → ℕ → ℕ → Bool
 settled marks i n = both (apart marks i n) (few marks i n)
+
+-- fewer below place i agree with it than one chassis may hold
+unfoldable pub fewBelow : List ℕ → ℕ → Bool
+fewBelow marks i = ltb (count (kin marks i) i) perChassis
 
 -- what the pass over all places gives
 pub record Checks (s : State) (m : Marks) : Type 0 where

@@ -2,19 +2,22 @@
 // Each LLDPDU is walked once, for validity, seconds and mark together. A shorter buffer is looked at as far as it goes; its length is `fitness`'s.
 ghost use mathlib.Core.Path.{_≡_};
 ghost use mathlib.Core.Bool.{false};
-ghost use lib.ListN.{replicate};
-ghost use Rattle.ids.specs.Id.{idMeant};
+ghost use lib.ListN.{length, replicate};
+ghost use Rattle.walk.specs.declared.Extent.the-variants.{Octets};
+ghost use Rattle.lldpdu.specs.Extent.{extentOf};
+ghost use Rattle.lldpdu.specs.Leading.{leadingOf};
+ghost use Rattle.lldpdu.specs.declared.leading.Leading.the-variants.{At};
 ghost use Rattle.numbers.specs.Sizes.{places};
-ghost use Rattle.place.specs.State.{state, ident};
-ghost use Rattle.marks.specs.Marks.{lastOne, lastTwo, identityMark, checkFree, checkUsed, checkPlace, Checks};
-use ids::IdPart;
+ghost use Rattle.place.specs.State.{state, whoseIn};
+ghost use Rattle.marks.specs.Marks.{identityMark, checkFree, checkUsed, checkPlace, Checks};
 use lldpdu::Extent;
-use lldpdu::outline_lldpdu;
+use lldpdu::Leading;
+use lldpdu::leading_of;
+use lldpdu::rest_extent;
 use numbers::PLACES;
 use numbers::PORTS;
 use numbers::Table;
 use octets::is_group;
-use octets::octet;
 use octets::pair;
 use octets::same_six;
 use place::SIZE;
@@ -34,33 +37,14 @@ pub struct Marks {
     pub marks: [u32; PLACES],
 }
 
-fn last_one(octets: &[u8]) -> u8
-    ensures { λ r. ⌜ r ≡ lastOne (now (octets .entry)) ⌝ }
-{
-    let n = octets.len();
-    if n == 0 {
-        return 0;
-    }
-    octets[n - 1]
-}
-
-fn last_two(id: &[u8]) -> u16
-    ensures { λ r. ⌜ r ≡ lastTwo (now (id .entry)) ⌝ }
-{
-    let n = id.len();
-    if n < 2 {
-        return octet(id, 0) as u16;
-    }
-    pair(octet(id, n - 2), octet(id, n - 1))
-}
-
 // The mark of an identity: unequal marks tell unequal identities, and cost one comparison of a number.
-// It takes the last octets, since the first ones of a chassis are its maker's.
-fn identity_mark(p: u8, text: &[u8], chassis: IdPart, port: IdPart) -> u32
-    ensures { λ r. ⌜ r ≡ identityMark (ident p (idMeant (now (text .entry)) chassis) (idMeant (now (text .entry)) port)) ⌝ }
+// It takes the last octets, since the first ones of a chassis are its maker's; they stand before TLV 2, at port, and before TLV 3, at a place behind it.
+fn mark_of(p: u8, l: &[u8], port: usize, at: usize) -> u32
+    requires { ⌜ (extentOf (now l) ≡ Octets (length (now l))) × (leadingOf (now l) ≡ At port at) ⌝ }
+    ensures { λ r. ⌜ r ≡ identityMark (whoseIn p (now (l .entry))) ⌝ }
 {
-    let front = pair(p, last_one(text_of(text, chassis.octets)));
-    front as u32 * 65536 + last_two(text_of(text, port.octets)) as u32
+    let front = pair(p, l[port - 1]);
+    front as u32 * 65536 + pair(l[at - 2], l[at - 1]) as u32
 }
 
 // A free place has numbers 0, a sender of six zeros and octets 0 (N5 b).
@@ -83,28 +67,39 @@ fn check_free(p: u8, left: u16, sender: [u8; 6], b: &[u8]) -> Check
     }
 }
 
-// A used place has a whole valid LLDPDU with time left, and zeros behind it (N5 c).
+// A valid LLDPDU of exactly its length, with TLVs 2 and 3 at these places, has time left, and zeros stand behind it (N5 c).
+fn check_whole(p: u8, left: u16, l: &[u8], rest: &[u8], port: usize, at: usize) -> Check
+    requires { ⌜ (extentOf (now l) ≡ Octets (length (now l))) × (leadingOf (now l) ≡ At port at) ⌝ }
+    ensures { λ r. ⌜ r ≡ checkUsed p left (now (l .entry)) (now (rest .entry)) ⌝ }
+{
+    if left < 1 {
+        return Check::Unfit;
+    }
+    if left > pair(l[at + 2], l[at + 3]) {
+        return Check::Unfit;
+    }
+    if all_zero(rest) {
+        Check::Mark(mark_of(p, l, port, at))
+    } else {
+        Check::Unfit
+    }
+}
+
+// A used place has a whole valid LLDPDU (N5 c). No outline is made of it, which takes longer than to judge it.
 fn check_used(p: u8, left: u16, l: &[u8], rest: &[u8]) -> Check
     ensures { λ r. ⌜ r ≡ checkUsed p left (now (l .entry)) (now (rest .entry)) ⌝ }
 {
-    let o = outline_lldpdu(l);
-    let extent = o.extent;
-    match extent {
-        Extent::Refused(_) => Check::Unfit,
-        Extent::Octets(e) => {
-            if e != l.len() {
-                return Check::Unfit;
-            }
-            if left < 1 {
-                return Check::Unfit;
-            }
-            if left > o.seconds {
-                return Check::Unfit;
-            }
-            if all_zero(rest) {
-                Check::Mark(identity_mark(p, l, o.chassis, o.port))
-            } else {
-                Check::Unfit
+    match leading_of(l) {
+        Leading::Refused(_) => Check::Unfit,
+        Leading::At { port, seconds } => {
+            match rest_extent(l, seconds + 4) {
+                Extent::Refused(_) => Check::Unfit,
+                Extent::Octets(e) => {
+                    if e != l.len() {
+                        return Check::Unfit;
+                    }
+                    check_whole(p, left, l, rest, port, seconds)
+                }
             }
         }
     }

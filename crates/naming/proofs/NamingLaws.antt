@@ -207,6 +207,11 @@ naming-numbers s a = go (extentOf s)
     go (Refused n) = refl
     go (Octets e) = naming-seen a (restOf s .tlvs)
 
+-- on a valid LLDPDU it is the first TLV that names the address
+pub valid-naming : (s a : List ℕ) {e : ℕ} → extentOf s ≡ Octets e → firstNaming a (restOf s .tlvs) ≡ namingOf s a
+unfolding namingOf
+valid-naming s a v = sym (ap (λ (x : Extent). namingAt x s a) v)
+
 -- the one answer says what it should
 pub names-exactly : (s a : List ℕ) {r : Naming} → r ≡ namingOf s a → Names s a r
 names-exactly s a e = record { exact = e; refusal = ap refusalOfNaming e ∙ naming-refusal s a; numbers = ap numbersOf e ∙ naming-numbers s a }

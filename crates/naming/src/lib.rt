@@ -2,12 +2,14 @@
 // HTIP or not does not matter, and what is malformed is passed over.
 ghost use mathlib.Core.Path.{_≡_};
 ghost use Prim.Native.Nat.{_≤_};
-ghost use lib.ListN.{length, drop};
+ghost use lib.ListN.{length, drop, getD};
 ghost use Rattle.walk.specs.Walk.{walk};
+ghost use Rattle.lldpdu.specs.Extent.{restOf};
 ghost use Rattle.naming.specs.Naming.{seesIn, numberIn, numbersIn, Numbered, firstNaming, Names};
+use extension::extension_fits;
 use extension::extension_names;
-use fields::Field;
-use fields::field_of;
+use fields::is_ttc;
+use links::link_fits;
 use links::names;
 use lldpdu::Extent;
 use lldpdu::extent_of;
@@ -31,30 +33,56 @@ pub enum Naming {
     Link { interface: Number, port: Number },
 }
 
-// Whether a TLV is well-formed link information of either kind and names the address.
+// Link information: a TLV of type 127 with subtype 2 (T1, T7).
+fn link_sees(part: &[u8], address: [u8; 6]) -> bool
+    requires { ⌜ getD (now part) 3 0 ≡ 2 ⌝ }
+    ensures { λ r. ⌜ r ≡ seesIn 127 (now (part .entry)) address ⌝ }
+{
+    if is_ttc(part) {} else {
+        return false;
+    }
+    if link_fits(part) {
+        return names(part, address);
+    }
+    false
+}
+
+// Extension link information: a TLV of type 127 with subtype 4 (T1, T11).
+fn extension_sees(part: &[u8], address: [u8; 6]) -> bool
+    requires { ⌜ getD (now part) 3 0 ≡ 4 ⌝ }
+    ensures { λ r. ⌜ r ≡ seesIn 127 (now (part .entry)) address ⌝ }
+{
+    if is_ttc(part) {} else {
+        return false;
+    }
+    let content = text_of(
+        part,
+        Part {
+            start: 4,
+            len: part.len(),
+        },
+    );
+    if extension_fits(content) {
+        return extension_names(content, address);
+    }
+    false
+}
+
+// Whether a TLV is well-formed link information of either kind and names the address. What a field says is not asked: type and subtype pass most TLVs over.
 fn sees(kind: u8, part: &[u8], address: [u8; 6]) -> bool
     ensures { λ r. ⌜ r ≡ seesIn kind (now (part .entry)) address ⌝ }
 {
-    match field_of(kind, part) {
-        Field::Skipped => false,
-        Field::Malformed => false,
-        Field::Says { topic, skip } => {
-            if topic == fields::LINK {
-                return names(part, address);
-            }
-            if topic != fields::EXTENSION {
-                return false;
-            }
-            let content = text_of(
-                part,
-                Part {
-                    start: skip,
-                    len: part.len(),
-                },
-            );
-            extension_names(content, address)
-        }
+    if kind != 127 {
+        return false;
     }
+    let subtype = octet(part, 3);
+    if subtype == 2 {
+        return link_sees(part, address);
+    }
+    if subtype == 4 {
+        return extension_sees(part, address);
+    }
+    false
 }
 
 fn number_of(part: &[u8]) -> Number
@@ -105,11 +133,18 @@ fn naming_from(s: &[u8], from: usize, address: [u8; 6]) -> Naming
     }
 }
 
+// The answer on octets that are known to be a valid LLDPDU, as those that a fit table keeps (N5): they are walked once.
+pub fn rest_naming(s: &[u8], address: [u8; 6]) -> Naming
+    ensures { λ r. ⌜ r ≡ firstNaming address (restOf (now (s .entry)) .tlvs) ⌝ }
+{
+    naming_from(s, rest_place(s), address)
+}
+
 pub fn link_naming(s: &[u8], address: [u8; 6]) -> Naming
     ensures { λ r. ⌜ Names (now (s .entry)) address r ⌝ }
 {
     match extent_of(s) {
         Extent::Refused(n) => Naming::Refused(n),
-        Extent::Octets(_) => naming_from(s, rest_place(s), address),
+        Extent::Octets(_) => rest_naming(s, address),
     }
 }

@@ -82,16 +82,21 @@ pub fn room_of(t: Table, p: usize, own: u8) -> Room
     Room::Enough
 }
 
-// No port holds more than it may, and neither do all of them together (N5 e, f).
+// No port holds more than it may, and neither do all of them together (N5 e, f). One count of each port serves both.
 pub fn shares_fit(t: Table) -> bool
     ensures { λ r. ⌜ r ≡ sharesOk (holds t) ⌝ }
 {
+    let mut sum: usize = 0;
     for p in 0..PORTS {
-        if held(t, p) > MOST {
+        let count = held(t, p);
+        if count > MOST {
             return false;
         }
+        if count > SURE {
+            sum += (count - SURE) as usize;
+        }
     }
-    beyond_sure(t) <= COMMON
+    sum <= COMMON
 }
 
 // The lowest free place (N4), or PLACES where there is none.

@@ -3,20 +3,22 @@
 use Prim.Native.Nat.{ℕ, zero, suc, _+_, _*_, _/_, _%_, _<_}
 use mathlib.Core.Path.{_≡_, refl, sym, ap, ap₂, _∙_}
 use mathlib.Core.Bool.{Bool, true, false}
-use mathlib.Core.List.{List, [], _∷_}
+use mathlib.Core.List.{List, [], _∷_, _++_}
 use native.Mathlib.Omega.{arith}
 use mir.Syntax.{w8}
 use mir.Val.{Fits}
 use borrow.Author.Tests.{eqb-true}
-use lib.ListN.{length, getD}
-use lib.Seq.{ext-getD, take-all}
+use lib.ListN.{length, getD, set, drop}
+use lib.Seq.{ext-getD, take-all, getD-append-add, getD-drop}
 use lib.Dec.{eqb}
 use Rattle.tally.specs.Tab.{tab}
 use Rattle.tally.proofs.TestsLaws.{held}
-use Rattle.tally.proofs.TabLaws.{length-tab, getD-tab, tab-getD}
+use Rattle.tally.proofs.TabLaws.{length-tab, getD-tab, tab-getD, tab-same, filled-more}
 use Rattle.octets.specs.Numbers.{pairOf, twoOctets}
 use Rattle.octets.specs.Address.{sixAt}
 use Rattle.octets.proofs.AddressLaws.{six-there}
+use Rattle.whole.specs.Whole.{filled}
+use Rattle.whole.proofs.WholeLaws.{filled-octet}
 use Rattle.numbers.specs.Sizes.{places}
 use Rattle.numbers.specs.declared.Sender.{Sender}
 use Rattle.numbers.specs.declared.Table.{Table}
@@ -60,7 +62,7 @@ six-octet o at (suc (suc (suc (suc (suc (suc j)))))) h = absurd (omega arith)
 -- Octets, taken and written down again
 
 module _ (o : List ℕ) where
-  abbrev number : ℕ → ℕ
+  abbrev pub number : ℕ → ℕ
   number i = pairOf (getD o (2 * i) 0) (getD o (2 * i + 1) 0)
 
   module _ (fits : (i : ℕ) → Fits w8 (getD o i 0)) where
@@ -97,6 +99,49 @@ module _ (o : List ℕ) where
       ∙ ap (λ (s : Sender). getD (s .octets) (k % 6) 0) (getD-tab places senderAt (k / 6) noSender (omega arith))
       ∙ six-octet o (6 * (k / 6)) (k % 6) (omega arith)
       ∙ ap (λ (i : ℕ). getD o i 0) (omega arith))
+
+-- Octets that are brought to the full length mean the same
+
+module _ (o : List ℕ) where
+  pub full-ports : onePerPlace (filled o places) ≡ onePerPlace o
+  full-ports = tab-same places (λ i. getD o i 0) (λ i. getD (filled o places) i 0) (λ i h. filled-octet o places i h)
+
+  pub full-numbers : numbersIn (filled o numbersLong) ≡ numbersIn o
+  full-numbers =
+      tab-same places (number o) (number (filled o numbersLong))
+      (λ i h. ap₂ pairOf (filled-octet o numbersLong (2 * i) (omega arith)) (filled-octet o numbersLong (2 * i + 1) (omega arith)))
+
+  pub full-senders : sendersIn (filled o sendersLong) ≡ sendersIn o
+  unfolding sixAt
+  full-senders =
+      tab-same places (senderAt o) (senderAt (filled o sendersLong))
+      (λ i h.
+      let at : (k : ℕ) → k < 6 * i + 6 → getD (filled o sendersLong) k 0 ≡ getD o k 0 = λ k b. filled-octet o sendersLong k (omega arith) in
+      rw (at (6 * i) (omega arith), at (6 * i + 1) (omega arith), at (6 * i + 2) (omega arith), at (6 * i + 3) (omega arith), at (6 * i + 4) (omega arith), at (6 * i + 5) (omega arith)) refl)
+
+-- Numbers that were read low octet first, turned one after the other
+
+abbrev pub turned : ℕ → ℕ
+turned n = n % 256 * 256 + n / 256
+
+abbrev pub lowFirst : List ℕ → ℕ → ℕ
+lowFirst o i = pairOf (getD o (2 * i + 1) 0) (getD o (2 * i) 0)
+
+-- the first n are done, and the next is as it was
+next-stays : (f : ℕ → ℕ) (n : ℕ) (d : List ℕ) → getD (tab n f ++ drop n d) n 0 ≡ getD d n 0
+next-stays f n d =
+    let e : n ≡ length (tab n f) + 0 = omega (arith, length-tab n f) in
+    let z : n + 0 ≡ n = omega arith in
+    ap (λ (k : ℕ). getD (tab n f ++ drop n d) k 0) e ∙ getD-append-add (tab n f) (drop n d) 0 0 ∙ getD-drop n d 0 0 ∙ ap (λ (k : ℕ). getD d k 0) z
+
+module _ (o d a : List ℕ) (i : ℕ) (h : i < places) (e : d ≡ tab places (lowFirst o)) (w : a ≡ tab i (number o) ++ drop i d) where
+  pub turn-next : getD a i 0 ≡ lowFirst o i
+  turn-next = ap (λ (l : List ℕ). getD l i 0) w ∙ next-stays (number o) i d ∙ ap (λ (l : List ℕ). getD l i 0) e ∙ getD-tab places (lowFirst o) i 0 h
+
+  pub turn-more : ((k : ℕ) → Fits w8 (getD o k 0)) → set a i (turned (getD a i 0)) ≡ tab (i + 1) (number o) ++ drop (i + 1) d
+  turn-more fits =
+      let back : turned (lowFirst o i) ≡ number o i = omega (arith, fits (2 * i), fits (2 * i + 1)) in
+      filled-more (number o) i d (omega (arith, ap (λ (l : List ℕ). length l) e ∙ length-tab places (lowFirst o))) w (ap turned turn-next ∙ back) refl
 
 -- A table, written down and taken again
 

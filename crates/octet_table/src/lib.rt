@@ -1,7 +1,10 @@
 // The table's numbers and senders as octets (X3), for a caller that has no structs of ours: four slices lent beside the buffer.
 // Any slices get an answer: what octets past the end would say is 0, and slices of other lengths are not written.
 ghost use mathlib.Core.Path.{_≡_};
-ghost use lib.ListN.{length};
+ghost use Prim.Native.Nat.{_+_, _*_};
+ghost use lib.ListN.{length, getD};
+ghost use Rattle.tally.specs.Tab.{tab};
+ghost use Rattle.octets.specs.Numbers.{pairOf};
 ghost use Rattle.numbers.specs.Sizes.{places};
 ghost use Rattle.octet_table.specs.Lent.{numbersLong, sendersLong, lent, lengthsRight, onePerPlace, numbersIn, sendersIn, tableIn, numberOctets, senderOctets, Puts};
 use numbers::PLACES;
@@ -10,6 +13,7 @@ use numbers::Table;
 use octets::octet;
 use octets::pair;
 use octets::six;
+use whole::fill;
 
 // The octets of the seconds, and of the lengths; the octets of the senders (X2).
 pub const NUMBERS: usize = 2 * PLACES;
@@ -42,15 +46,27 @@ fn ports_in(o: &[u8]) -> [u8; PLACES]
     a
 }
 
-// High octet first.
-fn numbers_in(o: &[u8]) -> [u16; PLACES]
-    ensures { λ r. ⌜ r ≡ numbersIn (now (o .entry)) ⌝ }
+// Low octet first: in this order the compiler reads two octets at once.
+fn low_first(o: &[u8]) -> [u16; PLACES]
+    requires { ⌜ length (now o) ≡ numbersLong ⌝ }
+    ensures { λ r. ⌜ r ≡ tab places (λ i. pairOf (getD (now (o .entry)) (2 * i + 1) 0) (getD (now (o .entry)) (2 * i) 0)) ⌝ }
 {
     let mut a = [0; PLACES];
     for i in 0..PLACES {
-        let hi = octet(o, 2 * i);
-        let lo = octet(o, 2 * i + 1);
-        a[i] = pair(hi, lo);
+        a[i] = pair(o[2 * i + 1], o[2 * i]);
+    }
+    a
+}
+
+// High octet first.
+fn numbers_in(o: &[u8]) -> [u16; PLACES]
+    requires { ⌜ length (now o) ≡ numbersLong ⌝ }
+    ensures { λ r. ⌜ r ≡ numbersIn (now (o .entry)) ⌝ }
+{
+    let mut a = low_first(o);
+    for i in 0..PLACES {
+        let n = a[i];
+        a[i] = n % 256 * 256 + n / 256;
     }
     a
 }
@@ -68,15 +84,23 @@ fn senders_in(o: &[u8]) -> [Sender; PLACES]
     a
 }
 
-// The table that the slices mean.
+// The table that the slices mean. They are brought to their lengths first, so that no read is tested for an end.
 pub fn table_in(ports: &[u8], seconds: &[u8], lengths: &[u8], senders: &[u8]) -> Table
     ensures { λ r. ⌜ r ≡ tableIn (lent (now (ports .entry)) (now (seconds .entry)) (now (lengths .entry)) (now (senders .entry))) ⌝ }
 {
+    let mut p = [0; PLACES];
+    let mut s = [0; NUMBERS];
+    let mut l = [0; NUMBERS];
+    let mut n = [0; SENDERS];
+    fill(&mut p[..], ports);
+    fill(&mut s[..], seconds);
+    fill(&mut l[..], lengths);
+    fill(&mut n[..], senders);
     Table {
-        port: ports_in(ports),
-        seconds: numbers_in(seconds),
-        length: numbers_in(lengths),
-        sender: senders_in(senders),
+        port: ports_in(&p[..]),
+        seconds: numbers_in(&s[..]),
+        length: numbers_in(&l[..]),
+        sender: senders_in(&n[..]),
     }
 }
 

@@ -1,14 +1,17 @@
 -- Laws of octets put into an output: one string behind another, one octet, one turn of a loop, a whole that fits and one that does not.
 -- A loop keeps one equation: what is left, put behind what was put, gives the output of the whole.
-use Prim.Native.Nat.{ℕ, suc, _+_, _<_, _≤_}
+use Prim.Native.Nat.{ℕ, zero, suc, _+_, _-_, _<_, _≤_}
 use mathlib.Core.Path.{_≡_, refl, sym, ap, _∙_}
 use mathlib.Core.List.{List, [], _∷_, _++_}
+use mathlib.Core.Bool.{Bool, true, false}
 use native.Mathlib.Decide.{decLt}
 use native.Mathlib.Numerals.{add-one}
 use native.Mathlib.Omega.{arith}
-use borrow.Author.Tests.{lt-ltb, le-ltb}
+use borrow.Author.Tests.{lt-ltb, le-ltb, leb-true, leb-false}
 use lib.ListN.{length, set, take, drop, getD, length-set, drop-of-length-le, take-append-drop}
-use lib.Seq.{drop-cons, append-snoc, set-out, take-suc-set, drop-set-lt}
+use lib.Dec.{leb}
+use Rattle.tally.specs.Tests.{pick}
+use lib.Seq.{take-length, length-take-le, drop-cons, append-snoc, set-out, take-suc-set, drop-set-lt}
 use Rattle.output.specs.Output.{Output, outputAt, more, puts}
 
 pub puts-append : (x y : List ℕ) (o : Output) → puts (x ++ y) o ≡ puts y (puts x o)
@@ -60,8 +63,71 @@ module _ (f : List ℕ → List ℕ) (g : ℕ → List ℕ) (step : (b : ℕ) (x
   puts-done i o h inv = ap (λ (x : List ℕ). puts x o) (sym (ap f (drop-of-length-le s h) ∙ end)) ∙ inv
 
 -- each octet as it is
-pub as-it-is : (b : ℕ) (x : List ℕ) → (b ∷ x) ≡ (b ∷ []) ++ x
+as-it-is : (b : ℕ) (x : List ℕ) → (b ∷ x) ≡ (b ∷ []) ++ x
 as-it-is b x = refl
+
+-- A loop that stores each octet of s where it belongs, at + i being a place of the output
+
+module _ (s : List ℕ) (whole : Output) (l : List ℕ) (at i : ℕ) where
+  pub puts-stored : i < length s → at + i < length l → puts (drop i s) (outputAt l (at + i)) ≡ whole → puts (drop (i + 1) s) (outputAt (set l (at + i) (getD s i 0)) (at + (i + 1))) ≡ whole
+  puts-stored h k inv =
+      let n : at + i + 1 ≡ at + (i + 1) = omega arith in
+      let b = getD s i 0 in
+      let e : outputAt (set l (at + i) b) (at + (i + 1)) ≡ puts (b ∷ []) (outputAt l (at + i)) =
+      sym (ap (λ (m : ℕ). outputAt (set l (at + i) b) m) n) ∙ puts-one b (outputAt l (at + i)) (more-room l (at + i) b k) in
+      puts-next (λ x. x) (λ b. b ∷ []) as-it-is refl s whole i (outputAt l (at + i)) h inv e
+
+  pub puts-ends : length s ≤ i → i ≤ length s → puts (drop i s) (outputAt l (at + i)) ≡ whole → outputAt l (at + length s) ≡ whole
+  puts-ends h k inv =
+      let n : length s ≡ i = omega arith in
+      ap (λ (m : ℕ). outputAt l (at + m)) n ∙ puts-done (λ x. x) (λ b. b ∷ []) as-it-is refl s whole i (outputAt l (at + i)) h inv
+
+pub puts-begins : (s l : List ℕ) (at : ℕ) → puts (drop 0 s) (outputAt l (at + 0)) ≡ puts s (outputAt l at)
+puts-begins s l at = let e : at + 0 ≡ at = omega arith in ap (λ (m : ℕ). puts s (outputAt l m)) e
+
+-- What does not fit
+
+-- behind the end of the output nothing is put
+pub puts-past : (x l : List ℕ) (at : ℕ) → length l ≤ at → outputAt l at ≡ puts x (outputAt l at)
+unfolding puts
+puts-past [] l at h = refl
+puts-past (b ∷ x) l at h = puts-past x l at h ∙ ap (puts x) (more-full l at b h)
+
+-- only as many octets are put as have room
+puts-room : (x l : List ℕ) (at m : ℕ) → at + m ≡ length l → puts (take m x) (outputAt l at) ≡ puts x (outputAt l at)
+unfolding puts
+puts-room [] l at zero e = refl
+puts-room [] l at (suc m) e = refl
+puts-room (b ∷ x) l at zero e = puts-past (b ∷ x) l at (omega arith)
+puts-room (b ∷ x) l at (suc m) e =
+    let r = sym (more-room l at b (omega arith)) in
+    ap (puts (take m x)) r ∙ puts-room x (set l at b) (at + 1) m (omega (arith, length-set l at b)) ∙ sym (ap (puts x) r)
+
+-- The first n of x, as the code counts them and takes them
+
+module _ (k room : ℕ) {n : ℕ} (e : n ≡ pick (leb k room) k room) where
+  pub fitting-fits : (n ≤ k) × (n ≤ room)
+  fitting-fits = go (leb k room) refl
+    where
+      go : (t : Bool) → leb k room ≡ t → (n ≤ k) × (n ≤ room)
+      go true q = let d : n ≡ k = e ∙ rw q refl in (omega arith, omega (arith, leb-true k room q))
+      go false q = let d : n ≡ room = e ∙ rw q refl in (omega (arith, leb-false k room q), omega arith)
+
+module _ (x l : List ℕ) (at : ℕ) (h : at ≤ length l) {n : ℕ} (e : n ≡ pick (leb (length x) (length l - at)) (length x) (length l - at)) where
+  from-start : n - 0 ≡ n
+  from-start = omega arith
+
+  pub puts-fitting : puts (take (n - 0) x) (outputAt l at) ≡ puts x (outputAt l at)
+  puts-fitting = ap (λ (m : ℕ). puts (take m x) (outputAt l at)) from-start ∙ go (leb (length x) (length l - at)) e
+    where
+      go : (t : Bool) → n ≡ pick t (length x) (length l - at) → puts (take n x) (outputAt l at) ≡ puts x (outputAt l at)
+      go true q = ap (λ (m : ℕ). puts (take m x) (outputAt l at)) q ∙ ap (λ (y : List ℕ). puts y (outputAt l at)) (take-length x)
+      go false q = puts-room x l at n (omega arith)
+
+  pub fitting-inside : at + length (take (n - 0) x) ≤ length l
+  fitting-inside =
+      let f = fitting-fits (length x) (length l - at) e in
+      omega (arith, f .0, f .1, from-start, length-take-le (n - 0) x (omega (arith, f .0)))
 
 -- A whole that fits
 

@@ -9,8 +9,9 @@ use lib.Dec.{leb, ltb, eqb}
 use Rattle.tally.specs.Tests.{pick, both, all}
 use Rattle.tally.specs.Counts.{count, firstFrom}
 use Rattle.whole.specs.Whole.{filled}
+use Rattle.lldpdu.specs.Extent.{portPlace, idIn}
 use Rattle.lldpdu.specs.Outline.{outlineOf}
-use Rattle.ids.specs.Id.{Id, idMeant}
+use Rattle.ids.specs.Id.{Id}
 use Rattle.rules.specs.Identity.{Ident, same}
 use Rattle.rules.specs.Events.{Announcement}
 use Rattle.numbers.specs.Sizes.{places}
@@ -103,16 +104,16 @@ lldpduIn b k n = pick (ltb k places) (take n (take size (drop (k * size) b))) []
 unfoldable pub keep : ℕ → ℕ → List ℕ → List ℕ → Place
 keep p left sender l = record { port = p; seconds = left; len = length l; sender = sender; body = filled l size }
 
--- Identity (N2), by what the reader says of an LLDPDU
+-- Identity (N2), by the first two TLVs of an LLDPDU (L3, L4), as the reader says them of one that is valid
 
 abbrev pub ident : ℕ → Id → Id → Ident
 ident p c i = record { port = p; chassis = c; portId = i }
 
 unfoldable pub chassisIn : List ℕ → Id
-chassisIn l = idMeant l (outlineOf l .chassis)
+chassisIn l = idIn l 0
 
 unfoldable pub portIdIn : List ℕ → Id
-portIdIn l = idMeant l (outlineOf l .port)
+portIdIn l = idIn l (portPlace l)
 
 -- of an LLDPDU l that was heard on port p, whoever sent it
 abbrev pub whoseIn : ℕ → List ℕ → Ident

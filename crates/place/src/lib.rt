@@ -5,7 +5,8 @@ ghost use Rattle.ids.specs.Id.{idMeant};
 ghost use Rattle.place.specs.State.{putThere, free, state, lldpduIn, keep, recordIs, isFrom, ident};
 use ids::IdPart;
 use ids::same_id;
-use lldpdu::outline_lldpdu;
+use lldpdu::chassis_of;
+use lldpdu::port_of;
 use numbers::PLACES;
 use numbers::Sender;
 use numbers::Table;
@@ -100,9 +101,8 @@ pub fn store(
 fn is_from(l: &[u8], text: &[u8], chassis: IdPart, port: IdPart) -> bool
     ensures { λ r. ⌜ r ≡ isFrom (now (l .entry)) (idMeant (now (text .entry)) chassis) (idMeant (now (text .entry)) port) ⌝ }
 {
-    let o = outline_lldpdu(l);
-    if same_id(l, o.chassis, text, chassis) {
-        return same_id(l, o.port, text, port);
+    if same_id(l, chassis_of(l), text, chassis) {
+        return same_id(l, port_of(l), text, port);
     }
     false
 }

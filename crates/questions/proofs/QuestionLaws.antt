@@ -12,17 +12,23 @@ use denote.Enum.Declared.{tagOf}
 use types.Run.{OneOf}
 use borrow.Author.Tests.{eq-eqb, ne-eqb, lt-ltb, le-ltb}
 use lib.Dec.{eqb, ltb}
+use lib.ListN.{length}
 use Rattle.tally.specs.Tests.{pick}
-use Rattle.tally.proofs.TestsLaws.{not-below}
+use Rattle.tally.proofs.TestsLaws.{held, not-below}
+use Rattle.lldpdu.specs.Extent.{extentOf}
+use Rattle.walk.specs.declared.Extent.the-variants.{Octets}
 use Rattle.naming.specs.Naming as naming
 use Rattle.naming.proofs.Naming.{the-type}
 use Rattle.naming.specs.declared.Naming.{Naming}
 use Rattle.naming.specs.declared.Naming.the-variants as naming-is
 use Rattle.numbers.specs.Sizes.{ports, places}
 use Rattle.numbers.specs.Numbers.{holds}
-use Rattle.place.specs.State.{State, at, lldpduIn}
+use Rattle.place.specs.State.{State, at, lldpduAt, lldpduIn}
 use Rattle.place.proofs.ThereLaws.{there-lldpdu}
+use Rattle.marks.specs.PlaceFit.{usedTests, okUsed, okPlace}
 use Rattle.fitness.specs.Fit.{fit}
+use Rattle.fitness.proofs.FitLaws.{fit-parts}
+use Rattle.fitness.proofs.KeepLaws.{whole-parts}
 use Rattle.fitness.specs.Refusals.{refusalWhenUnfit, refusalOnPort}
 use Rattle.questions.specs.Sight.{refusalOfCount, heldIn, counted, Counted, refusalOfSight, sightIn, namingIn, namingInPlace, onNaming, sightFrom, sight, seenFrom, Sees}
 use Rattle.questions.specs.declared.Count.{Count}
@@ -76,6 +82,14 @@ module _ (a : List ℕ) (n : ℕ) (l : List ℕ) where
 
   pub naming-used : {r : Naming} {k : List ℕ} → n ≢ 0 → r ≡ naming.namingOf k a → k ≡ l → r ≡ namingIn a n l
   naming-used u e d = rw (ne-eqb n 0 u) (e ∙ ap (λ (k : List ℕ). naming.namingOf k a) d)
+
+-- what a used place of a fit table keeps is valid
+pub kept-valid : (s : State) → fit s ≡ true → (k : ℕ) → k < places → at s k .len ≢ 0
+    → extentOf (lldpduIn (s .buf) k (at s k .len)) ≡ Octets (length (lldpduIn (s .buf) k (at s k .len)))
+unfolding okPlace okUsed
+kept-valid s f k l u =
+    let h = held (usedTests (at s k)) (rw (ne-eqb (at s k .len) 0 u) at (fit-parts s f .good k l)) in
+    rw (there-lldpdu s k l) (whole-parts (lldpduAt (at s k)) (at s k .seconds) (h .1 .1 .1 .0) .extent)
 
 pub naming-there : (s : State) (a : List ℕ) (k : ℕ) → k < places → namingIn a (at s k .len) (lldpduIn (s .buf) k (at s k .len)) ≡ namingInPlace a (at s k)
 naming-there s a k h = ap (namingIn a (at s k .len)) (there-lldpdu s k h)

@@ -1,7 +1,7 @@
 // A whole frame: its length, destination, type and source, then the LLDPDU behind them.
 // The parts of an answer count from the first octet of the LLDPDU, which stands behind the header.
 ghost use mathlib.Core.Path.{_≡_};
-ghost use Rattle.reader.specs.Frame.{destinationOk, sourceOf, frameOk, onFrame, ReadsFrame};
+ghost use Rattle.reader.specs.Frame.{destinationOk, sourceOf, lldpduOf, frameOk, onFrame, ReadsFrame};
 ghost use Rattle.lldpdu.specs.Outline.{refusedOutline, outlineOf};
 use lldpdu::Outline;
 use lldpdu::outline_lldpdu;
@@ -11,8 +11,7 @@ use octets::octet;
 use octets::same_six;
 use octets::six;
 use reading::Reading;
-use reading::read_lldpdu;
-use reading::refused_reading;
+use reading::read_if;
 
 // The octets of destination, source and type, behind which the LLDPDU begins (F1).
 pub const HEADER: usize = 14;
@@ -73,12 +72,18 @@ pub fn outline_frame(f: &[u8]) -> Outline
     }
 }
 
+// Octets 14 and on (F1); a shorter frame has none.
+fn lldpdu_of(f: &[u8]) -> &[u8]
+    ensures { λ r. ⌜ now r ≡ lldpduOf (now (f .entry)) ⌝ }
+{
+    if f.len() < HEADER {
+        return &f[0..0];
+    }
+    &f[HEADER..]
+}
+
 pub fn read_frame(f: &[u8]) -> Reading
     ensures { λ r. ⌜ ReadsFrame (now (f .entry)) r ⌝ }
 {
-    if frame_fits(f) {
-        read_lldpdu(&f[HEADER..])
-    } else {
-        refused_reading(NO_FRAME)
-    }
+    read_if(frame_fits(f), lldpdu_of(f), NO_FRAME)
 }

@@ -1,5 +1,5 @@
 -- The reading means the answer of the rules: texts, link information, extension link information, address list and system fields, beside the verdict.
--- `reading-means` is the theorem; the code cites `ready`, `assembled` and `reads-exactly`.
+-- `reading-means` is the theorem; the code cites the laws of its survey and `reads-exactly`.
 use Prim.{Unit, tt}
 use Prim.Native.Nat.{ℕ, zero, suc, _+_, _*_, _<_, _≤_}
 use mathlib.Core.Path.{_≡_, refl, sym, ap, ap₂, _∙_}
@@ -19,15 +19,17 @@ use Rattle.fields.specs.declared.Field.{Field}
 use Rattle.fields.specs.declared.Field.the-variants.{Skipped, Malformed, Says}
 use Rattle.links.proofs.LinkLaws.{link-has}
 use Rattle.fields.proofs.FieldLaws.{Fits, field-fits}
-use Rattle.walk.specs.Walk.{Tlv, walk}
+use Rattle.walk.specs.Walk.{Tlv, Walked, walk}
 use Rattle.lldpdu.specs.Extent.{restPlace, restOf, extentOf}
-use Rattle.lldpdu.specs.Outline.{outlineAt, outlineOf}
+use Rattle.lldpdu.specs.Leading.{frontOf}
+use Rattle.lldpdu.specs.Outline.{refusedOutline, outlineAt}
 use Rattle.text.specs.Part.{textOf, optionalText}
-use Rattle.found.specs.Found.{nothing, markOf, gather, htipIn}
+use Rattle.found.specs.Found.{nothing, markOf, gather, surveyBy, htipIn}
 use Rattle.reading.specs.Reading.{linkAt, optionalAt, linkParts, foundIn, descriptionAt, refusedReading, readingAt, readingOf}
 use Rattle.found.specs.Contents.{onField, contents, LinkInfo, linkIn, tlvsIn}
 use Rattle.reading.specs.Meaning.{firstLink, firstContent, saidIn, answerAt, answerOf, linkMeant, saidBy, meant, Reads}
-use Rattle.lldpdu.proofs.ExtentLaws.{outline-extent}
+use Rattle.lldpdu.proofs.ExtentLaws.{not-both, extent-at}
+use Rattle.lldpdu.proofs.LeadingLaws.{front-refused, front-on}
 use Rattle.found.proofs.MarkLaws.{AllIn, walk-in, textAt, upTo2, Means, topic-means}
 use Rattle.found.proofs.VerdictLaws.{htip-means}
 use Rattle.system.proofs.SystemLaws.{system-means}
@@ -35,7 +37,7 @@ use Rattle.walk.specs.declared.Extent.{Extent}
 use Rattle.walk.specs.declared.Extent.the-variants.{Refused, Octets}
 use Rattle.lldpdu.specs.declared.outline.Outline.{Outline}
 use Rattle.found.specs.declared.Mark.{Mark}
-use Rattle.found.specs.declared.Found.{Found}
+use Rattle.found.specs.declared.Survey.{Survey}
 use Rattle.reading.specs.declared.Description.{Description}
 use Rattle.reading.specs.declared.Link.{Link}
 use Rattle.reading.specs.declared.Link.the-variants as link-is
@@ -177,35 +179,56 @@ reading-means s = go (extentOf s)
 pub reads-exactly : (s : List ℕ) {r : Reading} → r ≡ readingOf s → Reads s r
 reads-exactly s e = record { exact = e; means = ap (meant s) e ∙ reading-means s }
 
--- What the code has in hand of an LLDPDU: its outline, and what was gathered behind the first three TLVs
+-- What the code has in hand of an LLDPDU: its first three TLVs, and what was gathered behind them
 
-module _ (s : List ℕ) {o : Outline} (t : o ≡ outlineOf s) where
-  extent-is : {x : Extent} → o .extent ≡ x → extentOf s ≡ x
-  extent-is v = sym (ap (λ (y : Outline). y .extent) t ∙ outline-extent s) ∙ v
+by-extent : (s : List ℕ) {x : Extent} → extentOf s ≡ x → readingAt x s ≡ readingOf s
+unfolding readingOf
+by-extent s e = ap (λ (x : Extent). readingAt x s) (sym e)
 
-  pub refuses : {n : ℕ} → o .extent ≡ Refused n → refusedReading n ≡ readingOf s
-  unfolding readingOf
-  refuses v = ap (λ (x : Extent). readingAt x s) (sym (extent-is v))
+module _ (s : List ℕ) (right : Bool) (otherwise : ℕ) {o : Outline} (t : o ≡ pick right (outlineAt (frontOf s) s) (refusedOutline otherwise)) where
+  -- refused by the first three, or by what stands before them
+  pub refuses : {n : ℕ} → o .extent ≡ Refused n → refusedReading n ≡ pick right (readingOf s) (refusedReading otherwise)
+  refuses {n} e = go right (ap (λ (x : Outline). x .extent) (sym t) ∙ e)
+    where
+      go : (b : Bool) → pick b (outlineAt (frontOf s) s) (refusedOutline otherwise) .extent ≡ Refused n → refusedReading n ≡ pick b (readingOf s) (refusedReading otherwise)
+      go true q = by-extent s (front-refused s (sym (extent-at (frontOf s) s) ∙ q))
+      go false q = let z : n ≡ otherwise = cc in ap refusedReading z
 
-  outlined : {e : ℕ} → o .extent ≡ Octets e → o ≡ outlineAt (Octets e) s
-  unfolding outlineOf
-  outlined v = t ∙ ap (λ (x : Extent). outlineAt x s) (extent-is v)
+  pub goes-on : {from : ℕ} → o .extent ≡ Octets from → (right ≡ true) × ((frontOf s ≡ Octets from) × (o ≡ outlineAt (Octets from) s))
+  goes-on {from} e = go right t (ap (λ (x : Outline). x .extent) (sym t) ∙ e)
+    where
+      go : (b : Bool) → o ≡ pick b (outlineAt (frontOf s) s) (refusedOutline otherwise) → pick b (outlineAt (frontOf s) s) (refusedOutline otherwise) .extent ≡ Octets from
+          → (b ≡ true) × ((frontOf s ≡ Octets from) × (o ≡ outlineAt (Octets from) s))
+      go true u q = let f = sym (extent-at (frontOf s) s) ∙ q in (refl, (f, u ∙ ap (λ (x : Extent). outlineAt x s) f))
+      go false u q = not-both q
 
-module _ (s : List ℕ) {p : ℕ} {f : Found} (q : p ≡ restPlace s) (g : f ≡ gather nothing (walk (drop p s) 0 p .tlvs)) where
-  gathered-is : f ≡ foundIn s
-  gathered-is = g ∙ ap (λ (n : ℕ). gather nothing (walk (drop n s) 0 n .tlvs)) q
+module _ (s : List ℕ) {from : ℕ} (t : frontOf s ≡ Octets from) {v : Survey} (g : v ≡ surveyBy nothing (walk (drop from s) 0 from)) where
+  rest-is : walk (drop from s) 0 from ≡ restOf s
+  rest-is = ap (λ (n : ℕ). walk (drop n s) 0 n) (front-on s t .0)
 
-  pub ready : markOf link f .start ≤ length s
+  extent-is : {x : Extent} → v .extent ≡ x → extentOf s ≡ x
+  unfolding surveyBy
+  extent-is e = front-on s t .1 ∙ ap (λ (w : Walked). w .extent) (sym rest-is) ∙ ap (λ (y : Survey). y .extent) (sym g) ∙ e
+
+  found-is : v .found ≡ foundIn s
+  unfolding surveyBy
+  found-is = ap (λ (y : Survey). y .found) g ∙ ap (λ (w : Walked). gather nothing (w .tlvs)) rest-is
+
+  pub walk-refuses : {n : ℕ} → v .extent ≡ Refused n → refusedReading n ≡ readingOf s
+  walk-refuses e = by-extent s (extent-is e)
+
+  pub ready : markOf link (v .found) .start ≤ length s
   ready =
       let inside = marks-inside s link (omega arith) in
-      rw gathered-is (omega arith)
+      rw found-is (omega arith)
 
-  pub assembled : {o : Outline} {e : ℕ} → o ≡ outlineOf s → o .extent ≡ Octets e → {h : Bool} {d : Description} → h ≡ htipIn f → d ≡ descriptionAt s o f
+  pub assembled : {e : ℕ} → v .extent ≡ Octets e → {o : Outline} → o ≡ outlineAt (Octets from) s
+      → {h : Bool} {d : Description} → h ≡ htipIn (v .found) → d ≡ descriptionAt s o (v .found)
       → record { extent = Octets e; htip = h; description = d } ≡ readingOf s
-  unfolding readingOf
-  assembled {e = e} t v x y =
-      rw (extent-is s t v, x, gathered-is)
-      (ap (λ (b : Description). record { extent = Octets e; htip = htipIn (foundIn s); description = b }) (y ∙ ap₂ (descriptionAt s) (outlined s t v) gathered-is))
+  assembled {e = e} u o x y =
+      let d = y ∙ ap₂ (descriptionAt s) o found-is in
+      let h = x ∙ ap htipIn found-is in
+      (λ i. record { extent = Octets e; htip = h i; description = d i }) ∙ by-extent s (extent-is u)
 
 -- Link information that the code has taken apart
 

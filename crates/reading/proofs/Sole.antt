@@ -4,16 +4,16 @@ use mathlib.Core.Path.{sym, _∙_}
 use Rattle.tally.proofs.Sole.{Sole}
 use Rattle.reading.proofs.link_parts.Kinds as link-parts-kinds
 use Rattle.reading.proofs.link_parts.Reads as link-parts
+use Rattle.reading.proofs.read_if.Kinds as read-if-kinds
+use Rattle.reading.proofs.read_if.Reads as read-if
 use Rattle.reading.proofs.read_lldpdu.Kinds as read-lldpdu-kinds
 use Rattle.reading.proofs.read_lldpdu.Reads as read-lldpdu
-use Rattle.reading.proofs.refused_reading.Kinds as refused-reading-kinds
-use Rattle.reading.proofs.refused_reading.Reads as refused-reading
+
+pub read-if-sole : Sole 1 read-if-kinds.ps read-if-kinds.r read-if.Post
+read-if-sole κs a r q x y e f = e ∙ sym f
 
 pub read-lldpdu-sole : Sole 1 read-lldpdu-kinds.ps read-lldpdu-kinds.r read-lldpdu.Post
 read-lldpdu-sole κs a r q x y e f = e .exact ∙ sym (f .exact)
-
-pub refused-reading-sole : Sole 0 refused-reading-kinds.ps refused-reading-kinds.r refused-reading.Post
-refused-reading-sole κs a r q x y e f = e ∙ sym f
 
 pub link-parts-sole : Sole 0 link-parts-kinds.ps link-parts-kinds.r link-parts.Post
 link-parts-sole κs a r q x y e f = e ∙ sym f

@@ -3,9 +3,12 @@
 ghost use mathlib.Core.Path.{_≡_};
 ghost use Prim.Native.Nat.{_^_, _<_, _≤_};
 ghost use lib.ListN.{length};
+ghost use Rattle.tally.specs.Tests.{pick};
 ghost use Rattle.fields.specs.Field.{link};
+ghost use Rattle.lldpdu.specs.Leading.{frontOf};
+ghost use Rattle.lldpdu.specs.Outline.{refusedOutline, outlineAt};
 ghost use Rattle.found.specs.Found.{markOf};
-ghost use Rattle.reading.specs.Reading.{tableIn, linkAt, optionalAt, linkParts, descriptionAt, refusedReading};
+ghost use Rattle.reading.specs.Reading.{tableIn, linkAt, optionalAt, linkParts, descriptionAt, refusedReading, readingOf};
 ghost use Rattle.reading.specs.Meaning.{Reads};
 use found::Found;
 use found::Mark;
@@ -15,8 +18,8 @@ use found::part_at;
 use lldpdu::Extent;
 use lldpdu::IdPart;
 use lldpdu::Outline;
-use lldpdu::outline_lldpdu;
-use lldpdu::rest_place;
+use lldpdu::outline_front;
+use lldpdu::refused_outline;
 use octets::octet;
 use system::System;
 use system::empty_system;
@@ -143,6 +146,19 @@ fn optional_at(m: Mark) -> Optional
     Optional::Present(part_at(m))
 }
 
+// An ID, field by field: copied whole, it takes the gap behind its subtype along, octet by octet.
+fn id_of(i: IdPart) -> IdPart
+    ensures { λ r. ⌜ r ≡ i ⌝ }
+{
+    IdPart {
+        subtype: i.subtype,
+        octets: Part {
+            start: i.octets.start,
+            len: i.octets.len,
+        },
+    }
+}
+
 // Chassis, port ID and seconds are those of the outline; the rest is what was found behind them.
 fn description_at(s: &[u8], o: Outline, found: Found) -> Description
     requires { ⌜ markOf link found .start ≤ length (now s) ⌝ }
@@ -151,8 +167,8 @@ fn description_at(s: &[u8], o: Outline, found: Found) -> Description
     let chassis = o.chassis;
     let port = o.port;
     Description {
-        chassis: chassis,
-        port: port,
+        chassis: id_of(chassis),
+        port: id_of(port),
         seconds: o.seconds,
         words: part_at(found.marks[fields::PORT_DESCRIPTION]),
         category: part_at(found.marks[fields::CATEGORY]),
@@ -166,7 +182,7 @@ fn description_at(s: &[u8], o: Outline, found: Found) -> Description
     }
 }
 
-pub fn refused_reading(n: u8) -> Reading
+fn refused_reading(n: u8) -> Reading
     ensures { λ r. ⌜ r ≡ refusedReading n ⌝ }
 {
     let none = Part { start: 0, len: 0 };
@@ -194,20 +210,46 @@ pub fn refused_reading(n: u8) -> Reading
     }
 }
 
-pub fn read_lldpdu(s: &[u8]) -> Reading
-    ensures { λ r. ⌜ Reads (now (s .entry)) r ⌝ }
+// The outline of the first three TLVs, where what stands before them is right; where it is not, the refusal that this is.
+fn front_if(right: bool, s: &[u8], otherwise: u8) -> Outline
+    ensures { λ r. ⌜ r ≡ pick right (outlineAt (frontOf (now (s .entry))) (now (s .entry))) (refusedOutline otherwise) ⌝ }
 {
-    let o = outline_lldpdu(s);
-    let extent = o.extent;
-    match extent {
+    if right {
+        outline_front(s)
+    } else {
+        refused_outline(otherwise)
+    }
+}
+
+// The reading of an LLDPDU, where what stands before it is right; where it is not, the refusal that this is.
+// All answers are made here, since one that is made by a call in one of two branches is copied behind it.
+pub fn read_if(right: bool, s: &[u8], otherwise: u8) -> Reading
+    ensures { λ r. ⌜ r ≡ pick right (readingOf (now (s .entry))) (refusedReading otherwise) ⌝ }
+{
+    let o = front_if(right, s, otherwise);
+    let front = o.extent;
+    match front {
         Extent::Refused(n) => refused_reading(n),
-        Extent::Octets(length) => {
-            let found = gathered(s, rest_place(s));
-            Reading {
-                extent: Extent::Octets(length),
-                htip: is_htip(found),
-                description: description_at(s, o, found),
+        Extent::Octets(from) => {
+            let survey = gathered(s, from);
+            let extent = survey.extent;
+            match extent {
+                Extent::Refused(n) => refused_reading(n),
+                Extent::Octets(length) => {
+                    let found = survey.found;
+                    Reading {
+                        extent: Extent::Octets(length),
+                        htip: is_htip(found),
+                        description: description_at(s, o, found),
+                    }
+                }
             }
         }
     }
+}
+
+pub fn read_lldpdu(s: &[u8]) -> Reading
+    ensures { λ r. ⌜ Reads (now (s .entry)) r ⌝ }
+{
+    read_if(true, s, 0)
 }

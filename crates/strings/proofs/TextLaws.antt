@@ -1,37 +1,45 @@
--- Laws of the octets of a port description: the ranges of the code are the list of the rule, and the loop over a text.
--- The code decides by ranges, the rule by single characters.
+-- Laws of the octets of a port description: the tests of the code are the list of the rule, and the loop over a text.
+-- The code tests for what is left out, the rule lists what is not.
 use Prim.Native.Nat.{ℕ, _+_, _<_, _≤_}
-use mathlib.Core.Path.{_≡_, refl, sym, _∙_}
+use mathlib.Core.Path.{_≡_, refl, sym, ap, _∙_}
 use mathlib.Core.List.{List}
-use mathlib.Core.Bool.{Bool, true, false, not}
-use mathlib.Core.Logic.{_⊎_, inl, inr}
+use mathlib.Core.Bool.{Bool, true, false, not, _||_, _&&_}
 use native.Mathlib.Numerals.{add-one}
-use borrow.Author.Tests.{ne-eqb}
+use native.Mathlib.Omega.{arith}
 use lib.ListN.{length, drop, getD, drop-of-length-le}
 use lib.Seq.{drop-cons}
-use lib.Dec.{eqb}
-use Rattle.tally.specs.Tests.{both, either}
+use lib.Dec.{eqb, ltb}
+use Rattle.tally.specs.Tests.{both}
 use Rattle.tally.specs.Ranges.{allBelow}
+use Rattle.tally.proofs.TestsLaws.{both-end}
 use Rattle.tally.proofs.RangesLaws.{in-range}
 use Rattle.strings.specs.Text.{charOk, textOk}
 
--- one turn of the loop, with the answer c on the octet at i: it decides, or what stands behind it does
-module _ (s : List ℕ) (i : ℕ) {c w : Bool} (inv : textOk (drop i s) ≡ w) (h : i < length s) (p : c ≡ charOk (getD s i 0)) where
-  text-step : w ≡ both c (textOk (drop (i + 1) s))
+-- One turn of the loop: bad says whether an octet before i was left out, and with what stands from i on it tells of the whole text w
+
+module _ (s : List ℕ) (w : Bool) (i : ℕ) (bad : Bool) where
+  pub text-goes : {u : Bool} → both (not bad) (textOk (drop i s)) ≡ w → i < length s → u ≡ not (charOk (getD s i 0)) → both (not (bad || u)) (textOk (drop (i + 1) s)) ≡ w
   unfolding textOk
-  text-step = sym inv ∙ rw (p, add-one i, drop-cons s i 0 h)
+  text-goes {u} inv h p =
+      let rest = textOk (drop (i + 1) s) in
+      let e : textOk (drop i s) ≡ both (charOk (getD s i 0)) rest = rw (add-one i, drop-cons s i 0 h) in
+      ap (λ (v : Bool). both (not (bad || v)) rest) p ∙ moved bad (charOk (getD s i 0)) rest ∙ sym (ap (both (not bad)) e) ∙ inv
+    where
+      moved : (a b x : Bool) → both (not (a || not b)) x ≡ both (not a) (both b x)
+      moved true b x = refl
+      moved false true x = refl
+      moved false false x = refl
 
-  pub text-stops : c ≡ false → false ≡ w
-  text-stops e = sym (text-step ∙ rw e)
+  pub text-ends : both (not bad) (textOk (drop i s)) ≡ w → length s ≤ i → not bad ≡ w
+  unfolding textOk
+  text-ends inv h = sym (both-end (not bad)) ∙ sym (ap (both (not bad)) (rw (drop-of-length-le s h) refl)) ∙ inv
 
-  pub text-goes : c ≡ true → textOk (drop (i + 1) s) ≡ w
-  text-goes e = sym (text-step ∙ rw e)
+-- One octet: one computed test of all octets gives the rule at each
 
-pub text-end : (s : List ℕ) (i : ℕ) → length s ≤ i → textOk (drop i s) ≡ true
-unfolding textOk
-text-end s i h = rw (drop-of-length-le s h)
+abbrev leftOut : ℕ → Bool
+leftOut b =
+    (((ltb b 32 || (eqb b 34 || eqb b 38)) || (eqb b 60 || eqb b 62)) || ((ltb 90 b && ltb b 97) && not (eqb b 95))) || ltb 122 b
 
--- the rule answers v at b, unless b is = or _, which stand alone between ranges
 abbrev agree : Bool → Bool → Bool
 agree true x = x
 agree false x = not x
@@ -41,13 +49,6 @@ agrees true x e = sym e
 agrees false true e = e
 agrees false false e = refl
 
-abbrev pub quiet : Bool → ℕ → Bool
-quiet v b = either (eqb b 61) (either (eqb b 95) (agree v (charOk b)))
-
--- one computed test for the whole range gives the rule at each of its octets
-pub settled : (v : Bool) (lo n b : ℕ) → allBelow (λ d. quiet v (lo + d)) n ≡ true → lo ≤ b → b < lo + n → ((b ≡ 61) ⊎ (b ≡ 95) → ⊥) → v ≡ charOk b
-settled v lo n b e h k x =
-    let q : quiet v b ≡ true = in-range (quiet v) lo n b e h k in
-    let y : eqb b 61 ≡ false = ne-eqb b 61 (λ z. x (inl z)) in
-    let w : eqb b 95 ≡ false = ne-eqb b 95 (λ z. x (inr z)) in
-    agrees v (charOk b) (rw (y, w) at q)
+pub left-out : (b : ℕ) → b < 256 → leftOut b ≡ not (charOk b)
+unfolding allBelow charOk
+left-out b h = agrees (leftOut b) (not (charOk b)) (in-range (λ d. agree (leftOut d) (not (charOk d))) 0 256 b refl (omega arith) (omega arith))

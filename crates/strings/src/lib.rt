@@ -1,30 +1,29 @@
 // What a string may be: the characters of a port description, and how long the string of each device ID is.
-// The rules name single characters and IDs; the code has ranges of them.
+// The rules name single characters and IDs; the code tests for what lies before, between and behind them, and has ranges of IDs.
 ghost use mathlib.Core.Path.{_≡_};
+ghost use mathlib.Core.Bool.{not};
 ghost use Rattle.strings.specs.Text.{charOk, textOk};
 ghost use Rattle.strings.specs.Wants.{wantedOf};
 
-// An octet that a port description may have (T10).
-fn printable(b: u8) -> bool
-    ensures { λ r. ⌜ r ≡ charOk b ⌝ }
+// An octet that a port description may not have (T10). All tests are made, so that no branch depends on the octet.
+fn unprintable(b: u8) -> bool
+    ensures { λ r. ⌜ r ≡ not (charOk b) ⌝ }
 {
-    match b {
-        32..=33 | 35..=37 | 39..=59 | 61..=61 | 63..=90 | 95..=95 | 97..=122 => true,
-        _ => false,
-    }
+    let quotes = (b == 34) | (b == 38);
+    let signs = (b == 60) | (b == 62);
+    let brackets = (b > 90) & (b < 97) & (b != 95);
+    (b < 32) | quotes | signs | brackets | (b > 122)
 }
 
+// Every octet is looked at, also behind one that may not be there: octets are then tested many at a time.
 pub fn is_text(part: &[u8]) -> bool
     ensures { λ r. ⌜ r ≡ textOk (now (part .entry)) ⌝ }
 {
-    let mut i = 0;
-    while i < part.len() {
-        if !printable(part[i]) {
-            return false;
-        }
-        i += 1;
+    let mut bad = false;
+    for i in 0..part.len() {
+        bad = bad | unprintable(part[i]);
     }
-    true
+    !bad
 }
 
 // What the ID of a device information field asks of its string.

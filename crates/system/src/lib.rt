@@ -23,12 +23,12 @@ pub enum Capabilities {
     Flags { able: u16, enabled: u16 },
 }
 
-// An absent name or description is an empty part (A2).
+// An absent name or description is an empty part (A2). What is narrower than a word stands last, where no gap behind it is copied.
 pub struct System {
     pub name: Part,
     pub description: Part,
-    pub capabilities: Capabilities,
     pub management: Parts,
+    pub capabilities: Capabilities,
 }
 
 // The most octets of a name or a description (S1).

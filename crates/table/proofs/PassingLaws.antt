@@ -6,16 +6,15 @@ use mathlib.Core.Logic.{_≢_}
 use mathlib.Core.Bool.{true}
 use native.Mathlib.Omega.{arith}
 use borrow.Author.Tests.{eq-eqb, ne-eqb, le-leb, lt-leb}
-use lib.ListN.{length, take}
+use lib.ListN.{take}
 use Rattle.tally.proofs.TestsLaws.{held}
 use Rattle.rules.specs.Model as model
 use Rattle.rules.specs.Model.{tick, unplug}
-use Rattle.place.specs.State.{Place, size, free}
-use Rattle.place.proofs.PutLaws.{KeepsLong}
+use Rattle.place.specs.State.{Place, free}
 use Rattle.marks.specs.PlaceFit.{usedTests, okUsed, okPlace}
 use Rattle.fitness.specs.View.{placeOf}
 use Rattle.fitness.proofs.ViewLaws.{place-free, place-used}
-use Rattle.fitness.proofs.KeepLaws.{whole-parts, parts-whole, free-ok, free-long}
+use Rattle.fitness.proofs.KeepLaws.{whole-parts, parts-whole, free-ok}
 use Rattle.freeing.specs.Changes.{aged, lost}
 use Rattle.freeing.proofs.ChangeLaws.{less, aged-by, lost-by}
 
@@ -32,14 +31,8 @@ less-ok n x e u h =
 pub aged-ok : (n : ℕ) (x : Place) → okPlace x ≡ true → okPlace (aged n x) ≡ true
 aged-ok n x e = aged-by (λ y. okPlace y ≡ true) x (λ z. e) n (λ u h. free-ok) (less-ok n x e)
 
-pub aged-long : (n : ℕ) → KeepsLong (aged n)
-aged-long n x e = aged-by (λ y. length (y .body) ≡ size) x (λ z. e) n (λ u h. free-long) (λ u h. e)
-
 pub lost-ok : (p : ℕ) (x : Place) → okPlace x ≡ true → okPlace (lost p x) ≡ true
 lost-ok p x e = lost-by (λ y. okPlace y ≡ true) x (λ z. e) p (λ u h. free-ok) (λ u h. e)
-
-pub lost-long : (p : ℕ) → KeepsLong (lost p)
-lost-long p x e = lost-by (λ y. length (y .body) ≡ size) x (λ z. e) p (λ u h. free-long) (λ u h. e)
 
 -- As the model sees it
 

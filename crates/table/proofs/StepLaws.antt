@@ -32,7 +32,8 @@ use Rattle.freeing.specs.declared.Answer.the-variants.{Done, Refused}
 use Rattle.fitness.proofs.ViewLaws.{place-free, placed, view-fits, fit-view}
 use Rattle.fitness.proofs.FitLaws.{parts-fit}
 use Rattle.fitness.proofs.KeepLaws.{free-ok}
-use Rattle.table.proofs.PassingLaws.{aged-ok, aged-long, lost-ok, lost-long, aged-place, lost-place}
+use Rattle.freeing.proofs.FreedLaws.{changed-long}
+use Rattle.table.proofs.PassingLaws.{aged-ok, lost-ok, aged-place, lost-place}
 use Rattle.fitness.proofs.WrittenLaws.{Good, each-sized, each-good, each-view}
 use Rattle.table.proofs.ModelLaws.{frame-right}
 
@@ -124,9 +125,9 @@ module _ (s : State) (k : Kept s) where
   passed-step n =
       rw (passed-is n)
       (stepped s (each (aged n) places s) (event.passed n) k
-      (each-sized s (k .sized) (aged n) (aged-long n))
-      (each-good s (k .sized) (aged n) (aged-long n) (aged-ok n) (k .fit .good))
-      (each-view s (k .sized) (aged n) (aged-long n) (tick n) (aged-place n)))
+      (each-sized s (k .sized) (aged n) (changed-long _))
+      (each-good s (k .sized) (aged n) (changed-long _) (aged-ok n) (k .fit .good))
+      (each-view s (k .sized) (aged n) (changed-long _) (tick n) (aged-place n)))
 
   pub lost-is : (p : ℕ) → p < ports → linkLost p s ≡ answered Done (each (lost p) places s)
   unfolding linkLost
@@ -144,9 +145,9 @@ module _ (s : State) (k : Kept s) where
       go true e =
           rw (lost-is p (ltb-true p ports e))
           (stepped s (each (lost p) places s) (event.lost p) k
-          (each-sized s (k .sized) (lost p) (lost-long p))
-          (each-good s (k .sized) (lost p) (lost-long p) (lost-ok p) (k .fit .good))
-          (each-view s (k .sized) (lost p) (lost-long p) (unplug p) (lost-place p)))
+          (each-sized s (k .sized) (lost p) (changed-long _))
+          (each-good s (k .sized) (lost p) (changed-long _) (lost-ok p) (k .fit .good))
+          (each-view s (k .sized) (lost p) (changed-long _) (unplug p) (lost-place p)))
       go false e =
           let h = ltb-false p ports e in
           rw (lost-out p h) (record { kept = k; seen = sym (unplug-none ports p (view s) (view-fit s k .ports) h) })

@@ -10,11 +10,11 @@ use native.Mathlib.Numerals.{add-one}
 use borrow.Author.Tests.{eq-eqb, ne-eqb, eqb-true, eqb-false}
 use borrow.Rule.Slice.PartMut.{midOf, putMid}
 use lib.Bits.{bitOr, bitXor, or-zero-l, or-add-and, and-le-l, and-le-r, xor-add-and, xor-self}
-use lib.ListN.{length, take, drop, getD, set, replicate, length-append, length-take, length-replicate, take-append-drop, drop-of-length-le}
-use lib.Seq.{drop-cons, take-all, take-at, take-append-seam, length-take-le}
+use lib.ListN.{length, take, drop, getD, set, replicate, length-append, length-take, length-replicate, getD-replicate, take-append-drop, drop-of-length-le}
+use lib.Seq.{drop-cons, drop-drop, take-nil, take-all, take-at, take-append-seam, length-take-le}
 use lib.Dec.{eqb}
 use Rattle.tally.specs.Tests.{both}
-use Rattle.tally.proofs.TestsLaws.{both-true, both-end}
+use Rattle.tally.proofs.TestsLaws.{both-true, both-end, both-false}
 use Rattle.octets.specs.Address.{sameOctets}
 use Rattle.whole.specs.Whole.{zeros, filled}
 use Rattle.octets.proofs.AddressLaws.{same-step, same-end}
@@ -42,6 +42,16 @@ module _ (l : List ℕ) (n : ℕ) where
   pub filled-length : length (filled l n) ≡ n
   unfolding filled
   filled-length = simp (length-append, length-take, length-replicate) (omega arith)
+
+-- octet i of it is octet i of the string, and what octets past the end would say is 0
+pub filled-octet : (l : List ℕ) (n i : ℕ) → i < n → getD (filled l n) i 0 ≡ getD l i 0
+unfolding filled
+filled-octet [] n i h = rw take-nil (getD-replicate (n - 0) i 0 0 (omega arith))
+filled-octet (x ∷ l) zero i h = absurd (not-suc-le-zero h)
+filled-octet (x ∷ l) (suc n) zero h = refl
+filled-octet (x ∷ l) (suc n) (suc i) h =
+    let e : suc n - suc (length l) ≡ n - length l = omega arith in
+    ap (λ (k : ℕ). getD (take n l ++ replicate k 0) i 0) e ∙ filled-octet l n i (le-of-suc-le-suc h)
 
 -- OR is 0 where both are 0, XOR where both are the same
 pub or-zero : (a b : ℕ) → eqb (bitOr a b) 0 ≡ both (eqb a 0) (eqb b 0)
@@ -75,7 +85,34 @@ module _ (v : ℕ) (s : List ℕ) (i : ℕ) where
   unfolding zeros
   zeros-end h = rw (drop-of-length-le s h) (both-end _)
 
--- the same for two strings, with v for what differs in front
+-- a string judged part by part: a part that is all zero leaves the rest to decide, any other decides
+zeros-join : (a b : List ℕ) → zeros (a ++ b) ≡ both (zeros a) (zeros b)
+unfolding zeros
+zeros-join [] b = refl
+zeros-join (x ∷ a) b = ap (both (eqb x 0)) (zeros-join a b) ∙ sym (both-assoc (eqb x 0) (zeros a) (zeros b))
+
+zeros-split : (n : ℕ) (l : List ℕ) → zeros l ≡ both (zeros (take n l)) (zeros (drop n l))
+zeros-split n l = ap zeros (sym (take-append-drop n l)) ∙ zeros-join (take n l) (drop n l)
+
+module _ (s : List ℕ) (i n : ℕ) where
+  pub zeros-past : zeros (take n (drop i s)) ≡ true → zeros (drop (i + n) s) ≡ zeros (drop i s)
+  zeros-past e = ap zeros (sym (drop-drop n i s)) ∙ sym (zeros-split n (drop i s) ∙ ap (λ (t : Bool). both t (zeros (drop n (drop i s)))) e)
+
+  pub zeros-stop : zeros (take n (drop i s)) ≡ false → zeros (drop i s) ≡ false
+  zeros-stop e = zeros-split n (drop i s) ∙ ap (λ (t : Bool). both t (zeros (drop n (drop i s)))) e
+
+-- where what lies from i on decides, so does what lies from further in front
+pub zeros-overlap : (s : List ℕ) (from i : ℕ) → from ≤ i → zeros (drop i s) ≡ zeros s → zeros (drop from s) ≡ zeros s
+zeros-overlap s from i h e = go (zeros s) refl
+  where
+    go : (t : Bool) → zeros s ≡ t → zeros (drop from s) ≡ t
+    go true q = both-true (zeros (take from s)) (zeros (drop from s)) (sym (zeros-split from s) ∙ q) .1
+    go false q =
+        let k : from + (i - from) ≡ i = omega arith in
+        let f : zeros (drop (i - from) (drop from s)) ≡ false = ap zeros (drop-drop (i - from) from s) ∙ ap (λ (j : ℕ). zeros (drop j s)) k ∙ e ∙ q in
+        zeros-split (i - from) (drop from s) ∙ ap (both (zeros (take (i - from) (drop from s)))) f ∙ both-false (zeros (take (i - from) (drop from s)))
+
+-- one octet more of two strings, with v for what differs in front, and the end
 module _ (v : ℕ) (a b : List ℕ) (i : ℕ) where
   pub same-more : i < length a → i < length b
       → both (eqb (bitOr v (bitXor (getD a i 0) (getD b i 0))) 0) (sameOctets (drop (i + 1) a) (drop (i + 1) b)) ≡ both (eqb v 0) (sameOctets (drop i a) (drop i b))

@@ -1,13 +1,34 @@
 // Whole strings of octets: all zero, the same, cleared, filled.
-// No early exit: octets are joined over the whole, so that the compiler takes many at a time.
+// No early exit octet by octet: octets are joined, so that the compiler takes many at a time.
 ghost use mathlib.Core.Path.{_≡_};
 ghost use Prim.Native.Nat.{min};
 ghost use lib.ListN.{length, replicate};
 ghost use Rattle.octets.specs.Address.{sameOctets};
 ghost use Rattle.whole.specs.Whole.{zeros, filled};
 
+// The octets that are judged at once. The last of them overlap those before, so that no rest is left to go octet by octet.
+const AT_ONCE: usize = 256;
+
 // Whether all octets are 0, as those of a free place are and those behind a record (N5).
 pub fn all_zero(s: &[u8]) -> bool
+    ensures { λ r. ⌜ r ≡ zeros (now (s .entry)) ⌝ }
+{
+    if s.len() < AT_ONCE {
+        return part_zero(s);
+    }
+    let last = s.len() - AT_ONCE;
+    let mut i = 0;
+    while i < last {
+        if part_zero(&s[i..i + AT_ONCE]) {
+            i += AT_ONCE;
+        } else {
+            return false;
+        }
+    }
+    part_zero(&s[last..])
+}
+
+fn part_zero(s: &[u8]) -> bool
     ensures { λ r. ⌜ r ≡ zeros (now (s .entry)) ⌝ }
 {
     let mut seen: u8 = 0;

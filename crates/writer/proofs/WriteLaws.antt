@@ -1,6 +1,6 @@
 -- Laws of the answer: the ways to it, as the code goes them, and when each refusal is given.
 -- 9 is decided first, by the answer for an output of 1,500 octets: what keeps the rules has room there.
-use Prim.Native.Nat.{ℕ, _/_, _<_, _≤_}
+use Prim.Native.Nat.{ℕ, _-_, _/_, _<_, _≤_}
 use mathlib.Core.Path.{_≡_, refl, sym, ap, ap₂, _∙_}
 use mathlib.Core.List.{List, [], _∷_, _++_}
 use mathlib.Core.Bool.{Bool, true, false, not}
@@ -9,8 +9,8 @@ use native.Mathlib.Decide.{decLt}
 use native.Mathlib.Omega.{arith}
 use native.Mathlib.Nat.{zero-add}
 use borrow.Author.Tests.{le-leb, lt-leb}
-use lib.ListN.{length, drop}
-use lib.Seq.{take-length}
+use lib.ListN.{length, take, drop}
+use lib.Seq.{take-length, take-append-seam}
 use lib.Dec.{leb, eqb}
 use Rattle.tally.specs.Tests.{pick, both, all}
 use Rattle.tally.proofs.TestsLaws.{both-false}
@@ -56,6 +56,12 @@ put-zero out x h e =
     ap (λ (o : Output). o .octets) (e ∙ puts-fits x out 0 (omega arith))
     ∙ ap (λ (n : ℕ). x ++ drop n out) (zero-add (length x))
     ∙ ap (λ (l : List ℕ). l ++ drop (length x) out) (sym (take-length x))
+
+-- the octets at the front of a room that an LLDPDU was put into are its octets
+front-of : (room x : List ℕ) {now : List ℕ} {n : ℕ} → length x ≤ length room → outputAt now n ≡ puts x (outputAt room 0) → n ≡ length x → take (n - 0) now ≡ x
+front-of room x {now} {n} h e k =
+    let z : n - 0 ≡ length x = omega arith in
+    ap₂ take z (put-zero room x h e ∙ ap (λ (l : List ℕ). l ++ drop (length x) room) (take-length x)) ∙ take-append-seam x (drop (length x) room)
 
 -- what keeps the rules has no string and no number of addresses that an octet cannot count
 
@@ -127,13 +133,22 @@ module _ (s : List ℕ) (d : Description) where
     unfolding writeOf
     too-long h = elim (decLt 1500 size) [ yes l ↦ rw (lt-leb size 1500 l, both-false (keeps s d)) | no f ↦ absurd (omega (arith, ends-whole (omega arith))) ]
 
+    -- what has room in the room is all in it
+    counted : n ≤ 1500 → n ≡ size
+    counted h =
+        elim (decLt (length room) size) [
+          | yes l ↦ absurd (omega (arith, ends, puts-full (encode (saidBy s d)) room 0 (omega arith) (omega arith)))
+          | no g ↦ ends-whole (omega arith)
+        ]
+
     pub wanted : allInside (length s) d ≡ true → soundOf (saidBy s d) ≡ true → n ≤ 1500 → Octets n ≡ writeOf s d 1500
     unfolding writeOf keeps
     wanted e f h =
-        elim (decLt (length room) size) [
-          | yes l ↦ absurd (omega (arith, ends, puts-full (encode (saidBy s d)) room 0 (omega arith) (omega arith)))
-          | no g ↦ let q = ends-whole (omega arith) in rw (e, f, q, le-leb size 1500 (omega arith))
-        ]
+        let q = counted h in
+        rw (e, f, q, le-leb size 1500 (omega arith))
+
+    pub drafted : n ≤ 1500 → take (n - 0) now ≡ encode (saidBy s d)
+    drafted h = let k = counted h in front-of room (encode (saidBy s d)) (omega arith) q k
 
   -- From it to the answer for an output
 
@@ -145,7 +160,7 @@ module _ (s : List ℕ) (d : Description) where
   refuses out e = record { exact = then out e; output = refl }
 
   module _ {n : ℕ} (e : writeOf s d 1500 ≡ Octets n) where
-    pub said : (soundOf (saidBy s d) ≡ true) × (n ≡ length (encode (saidBy s d)))
+    said : (soundOf (saidBy s d) ≡ true) × (n ≡ length (encode (saidBy s d)))
     unfolding writeOf keeps
     said = passed (allInside (length s) d) (soundOf (saidBy s d)) (leb (length (encode (saidBy s d))) 1500) (length (encode (saidBy s d))) n e
 

@@ -1,9 +1,9 @@
 // The agent's writer: from a description and the text that it points into, the octets of its announcement.
 // A description that breaks a rule, or an output that is too short, gets its number and not one octet is written.
-ghost use mathlib.Core.Path.{_≡_};
-ghost use Rattle.writer.specs.Write.{writeOf, Writes};
+ghost use Rattle.writer.specs.Write.{Writes};
 use announcement::put_lldpdu;
 use description::is_sound;
+use output::put_all;
 use parts::all_inside;
 pub use reader::Capabilities;
 pub use reader::Description;
@@ -32,9 +32,10 @@ const NO_ROOM: u8 = 10;
 // Room for the longest, and for one octet more, so that a longer one shows.
 const ROOM: usize = LONGEST + 1;
 
-// What an output with room for any LLDPDU gets: 9, or the number of octets. They are counted by putting them.
-fn size_wanted(d: Description, text: &[u8]) -> Written
-    ensures { λ r. ⌜ r ≡ writeOf (now (text .entry)) d 1500 ⌝ }
+// Writes the LLDPDU of a description to the front of out (W1, W4); 9 goes before 10 (R11).
+// It is put into a room of its own first: what is refused must not touch out (R12), and its size is known only then.
+pub fn write(d: Description, text: &[u8], out: &mut [u8]) -> Written
+    ensures { λ r. ⌜ Writes (now (text .entry)) d (now (out .entry)) r (now (out .exit)) ⌝ }
 {
     if !all_inside(text.len(), d) {
         return Written::Refused(BREAKS_A_RULE);
@@ -47,21 +48,9 @@ fn size_wanted(d: Description, text: &[u8]) -> Written
     if size > LONGEST {
         return Written::Refused(BREAKS_A_RULE);
     }
-    Written::Octets(size)
-}
-
-// Writes the LLDPDU of a description to the front of out (W1, W4); 9 goes before 10 (R11).
-pub fn write(d: Description, text: &[u8], out: &mut [u8]) -> Written
-    ensures { λ r. ⌜ Writes (now (text .entry)) d (now (out .entry)) r (now (out .exit)) ⌝ }
-{
-    match size_wanted(d, text) {
-        Written::Refused(n) => Written::Refused(n),
-        Written::Octets(size) => {
-            if size > out.len() {
-                return Written::Refused(NO_ROOM);
-            }
-            put_lldpdu(out, text, d);
-            Written::Octets(size)
-        }
+    if size > out.len() {
+        return Written::Refused(NO_ROOM);
     }
+    put_all(out, 0, &room[0..size]);
+    Written::Octets(size)
 }

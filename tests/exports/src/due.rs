@@ -1,14 +1,13 @@
 //! What is due: the refusal number of a call and the slices as it leaves them (X2 to X6).
-//! The twin reads, writes and keeps the table; here its answers become octets.
+//! The twin reads, writes and keeps the table; its answers are held as octets.
 
-use twin::reader::{read_frame, read_lldpdu, Address, Counted, Reading, Refusal};
-use twin::table::{Reply, Sighting, Table, PLACES};
+use twin::reader::{read_frame, read_lldpdu, Address, Refusal};
 use twin::writer::write;
 
-use crate::described::{from_octets, to_octets};
+use crate::described::from_octets;
 use crate::exports::Export;
-use crate::parts;
-use crate::sizes::{HEADER_OCTETS, SIGHT_OCTETS};
+use crate::octets::{described, octets_of, reply_octet, sight, table_of, two, verdict};
+use crate::sizes::HEADER_OCTETS;
 
 const UNFIT: Refusal = 1;
 const BREAKS_A_RULE: Refusal = 9;
@@ -92,63 +91,4 @@ fn on_table(export: Export, slices: &[Vec<u8>], number: usize) -> Result<Changed
     let [ports, seconds, lengths, senders] = octets_of(&table);
     let left = [ports, seconds, lengths, senders, buffer].into_iter().enumerate();
     Ok(left.chain(answer).collect())
-}
-
-/// The table that the slices mean (X3). They have their right lengths.
-pub fn table_of(slices: &[Vec<u8>]) -> Table {
-    let two = |octets: &[u8], i: usize| u16::from_be_bytes([octets[2 * i], octets[2 * i + 1]]);
-    let mut table = Table::default();
-    for i in 0..PLACES {
-        table.port[i] = slices[0][i];
-        table.seconds[i] = two(&slices[1], i);
-        table.length[i] = two(&slices[2], i);
-        table.sender[i].copy_from_slice(&slices[3][6 * i..6 * i + 6]);
-    }
-    table
-}
-
-/// The slices that mean the table, without the buffer (X3).
-pub fn octets_of(table: &Table) -> [Vec<u8>; 4] {
-    [
-        table.port.to_vec(),
-        table.seconds.iter().flat_map(|number| number.to_be_bytes()).collect(),
-        table.length.iter().flat_map(|number| number.to_be_bytes()).collect(),
-        table.sender.concat(),
-    ]
-}
-
-fn described(lldpdu: &[u8], reading: &Reading) -> Vec<u8> {
-    to_octets(&parts::description(lldpdu, reading))
-}
-
-/// The length of the LLDPDU, and the verdict (X4).
-fn verdict(reading: &Reading) -> [u8; 3] {
-    let [high, low] = two(reading.outline.length);
-    [high, low, u8::from(reading.htip)]
-}
-
-fn two(number: usize) -> [u8; 2] {
-    u16::try_from(number).expect("no case has a longer LLDPDU").to_be_bytes()
-}
-
-fn reply_octet(reply: Reply) -> u8 {
-    match reply {
-        Reply::Recorded => 1,
-        Reply::Refreshed => 2,
-        Reply::Gone => 3,
-        Reply::UnknownGoodbye => 4,
-    }
-}
-
-/// Nobody is 0 throughout (X4).
-fn sight(sighting: Option<Sighting>) -> Vec<u8> {
-    let Some(Sighting { place, naming }) = sighting else {
-        return vec![0; SIGHT_OCTETS];
-    };
-    [&[1], &two(place)[..], &counted(naming.interface), &counted(naming.number)].concat()
-}
-
-fn counted(number: Counted) -> [u8; 5] {
-    let [a, b, c, d] = number.value.to_be_bytes();
-    [number.count as u8, a, b, c, d]
 }

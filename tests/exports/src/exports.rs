@@ -2,6 +2,7 @@
 //! A slice is two words, the pointer and the number of octets; some calls take one number more.
 
 use crate::lent::Lent;
+use crate::raw;
 use crate::sizes::*;
 
 /// Only the right number of slices comes in, since `Export::slices` says how many there are.
@@ -16,125 +17,6 @@ macro_rules! call {
             )
         }
     }};
-}
-
-mod raw {
-    extern "C" {
-        pub fn tambolune_judge(frame: *const u8, _: usize, answer: *mut u8, _: usize) -> u8;
-        pub fn tambolune_read(
-            frame: *const u8,
-            _: usize,
-            answer: *mut u8,
-            _: usize,
-            description: *mut u8,
-            _: usize,
-        ) -> u8;
-        pub fn tambolune_read_lldpdu(
-            lldpdu: *const u8,
-            _: usize,
-            answer: *mut u8,
-            _: usize,
-            description: *mut u8,
-            _: usize,
-        ) -> u8;
-        pub fn tambolune_write(
-            description: *const u8,
-            _: usize,
-            text: *const u8,
-            _: usize,
-            output: *mut u8,
-            _: usize,
-            answer: *mut u8,
-            _: usize,
-        ) -> u8;
-        pub fn tambolune_start(
-            ports: *mut u8,
-            _: usize,
-            seconds: *mut u8,
-            _: usize,
-            lengths: *mut u8,
-            _: usize,
-            senders: *mut u8,
-            _: usize,
-            buffer: *mut u8,
-            _: usize,
-        ) -> u8;
-        pub fn tambolune_frame_on_port(
-            ports: *mut u8,
-            _: usize,
-            seconds: *mut u8,
-            _: usize,
-            lengths: *mut u8,
-            _: usize,
-            senders: *mut u8,
-            _: usize,
-            buffer: *mut u8,
-            _: usize,
-            port: usize,
-            frame: *const u8,
-            _: usize,
-            answer: *mut u8,
-            _: usize,
-        ) -> u8;
-        pub fn tambolune_seconds_passed(
-            ports: *mut u8,
-            _: usize,
-            seconds: *mut u8,
-            _: usize,
-            lengths: *mut u8,
-            _: usize,
-            senders: *mut u8,
-            _: usize,
-            buffer: *mut u8,
-            _: usize,
-            seconds_gone: usize,
-        ) -> u8;
-        pub fn tambolune_link_lost(
-            ports: *mut u8,
-            _: usize,
-            seconds: *mut u8,
-            _: usize,
-            lengths: *mut u8,
-            _: usize,
-            senders: *mut u8,
-            _: usize,
-            buffer: *mut u8,
-            _: usize,
-            port: usize,
-        ) -> u8;
-        pub fn tambolune_how_many(
-            ports: *const u8,
-            _: usize,
-            seconds: *const u8,
-            _: usize,
-            lengths: *const u8,
-            _: usize,
-            senders: *const u8,
-            _: usize,
-            buffer: *const u8,
-            _: usize,
-            port: usize,
-            answer: *mut u8,
-            _: usize,
-        ) -> u8;
-        pub fn tambolune_who_sees(
-            ports: *const u8,
-            _: usize,
-            seconds: *const u8,
-            _: usize,
-            lengths: *const u8,
-            _: usize,
-            senders: *const u8,
-            _: usize,
-            buffer: *const u8,
-            _: usize,
-            address: *const u8,
-            _: usize,
-            start: usize,
-            answer: *mut u8,
-            _: usize,
-        ) -> u8;
-    }
 }
 
 /// A slice that a call takes: its name, and its number of octets where that is fixed (X2).

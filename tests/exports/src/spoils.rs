@@ -7,7 +7,8 @@ use twin::table::{octets_of, BUFFER_OCTETS, PLACES, PLACE_OCTETS, PORTS};
 use crate::agents::{address, any_frame};
 use crate::bench::Bench;
 use crate::cell::{Call, Cell};
-use crate::due::{table_of, BUFFER};
+use crate::due::BUFFER;
+use crate::octets::table_of;
 use crate::sequences::{any_port, any_seconds, any_start};
 
 const ONE_OCTET: u64 = 0x4F43_5445_5400;

@@ -1,7 +1,8 @@
--- `found::gathered` meets its contract: what is found so far, with the TLVs to come, is what the whole walk finds.
+-- `found::gathered` meets its contract: what is found so far, with the TLVs to come, is what the whole walk finds; and so is where it ends.
 -- The laws are those of FoundLaws: what one TLV adds, by what it says, and one step of the walk.
-use Prim.Native.Nat.{_+_, _-_, _<_, _≤_}
+use Prim.Native.Nat.{ℕ, _+_, _-_, _<_, _≤_}
 use mathlib.Core.Path.{_≡_, refl, sym, ap, _∙_}
+use mathlib.Core.List.{List}
 use native.Mathlib.Omega.{arith}
 use denote.Ref.{now}
 use borrow.Author.Needs.{needs}
@@ -9,74 +10,71 @@ use lib.ListN.{length, take, drop}
 use Rattle.octets.proofs.PartLaws.{part-is}
 use Rattle.fields.specs.Field.{topics, management, fieldOf}
 use Rattle.fields.specs.declared.Field.{Field}
-use Rattle.found.specs.Found.{nothing, noted, gather}
+use Rattle.found.specs.Found.{nothing, noted, surveyBy}
 use Rattle.found.specs.declared.Found.{Found}
 use Rattle.walk.specs.Walk.{headOf, stepOf, walk}
 use Rattle.walk.specs.declared.Step.the-variants as step
 use Rattle.walk.proofs.WalkLaws.{next-fits, next-on}
-use Rattle.found.proofs.FoundLaws.{Within, noted-skipped, noted-malformed, noted-address, noted-mark, gather-refused, gather-end, gather-next, next-within}
+use Rattle.found.proofs.FoundLaws.{Within, noted-skipped, noted-malformed, noted-address, noted-mark, survey-refused, survey-end, survey-next, next-within}
 use Rattle.found.proofs.gathered.Statement.{statement}
 use Rattle.found.proofs.gathered.Tie as tie
 
 abbrev Inv-loop : tie.InvT-loop
-Inv-loop s from at₀ found₀ at found = gather found (walk (drop at s) 0 at .tlvs) ≡ gather nothing (walk (drop from s) 0 from .tlvs)
+Inv-loop s from at₀ found₀ at found = surveyBy found (walk (drop at s) 0 at) ≡ surveyBy nothing (walk (drop from s) 0 from)
 
 abbrev μ-loop : tie.MeasureT-loop
 μ-loop s from at₀ found₀ at found = length s - at
 
--- a TLV that the walk passes: where it lies, and what it says
+-- a TLV that the walk passes: where it lies, and that the loop goes on behind it with what it adds
+module _ (k : tie.After-known-told3 Inv-loop μ-loop) where
+  abbrev s : List ℕ
+  s = now (k .before .before .before .before .before .before .before .args .s)
 
-passes : (k : tie.After-known-told Inv-loop μ-loop)
-    → stepOf (headOf (drop (k .before .before .before .before .loop .at) (now (k .before .before .before .before .before .before .before .args .s)))) (k .before .before .before .before .loop .at)
-    ≡ step.Next (k .before .kind .given .0 .0) (k .before .kind .given .0 .1 .0) (k .before .kind .given .0 .1 .1 .0)
-passes k = sym (k .before .before .before .step-at .ensures) ∙ k .before .kind .given .1
+  abbrev at : ℕ
+  at = k .before .before .before .before .loop .at
 
-lies : (k : tie.After-known-told Inv-loop μ-loop)
-    → k .before .kind .given .0 .1 .0 + k .before .kind .given .0 .1 .1 .0 ≤ length (now (k .before .before .before .before .before .before .before .args .s))
-lies k = next-fits (now (k .before .before .before .before .before .before .before .args .s)) (k .before .before .before .before .loop .at) (passes k)
+  abbrev found : Found
+  found = k .before .before .before .before .loop .found
 
-says : (f : tie.After-field-of Inv-loop μ-loop)
-    → f .field-of .result
-    ≡ fieldOf (f .before .before .before .kind .given .0 .0)
-    (take (f .before .before .before .kind .given .0 .1 .1 .0) (drop (f .before .before .before .kind .given .0 .1 .0) (now (f .before .before .before .before .before .before .before .before .before .args .s))))
+  abbrev kind : ℕ
+  kind = k .before .kind .given .0 .0
+
+  abbrev start : ℕ
+  start = k .before .kind .given .0 .1 .0
+
+  abbrev len : ℕ
+  len = k .before .kind .given .0 .1 .1 .0
+
+  passes : stepOf (headOf (drop at s)) at ≡ step.Next kind start len
+  passes = sym (k .before .before .before .step-at .ensures) ∙ k .before .kind .given .1
+
+  lies : start + len ≤ length s
+  lies = next-fits s at passes
+
+  less : length s - (start + len) < length s - at
+  less = omega (arith, lies, next-on s at passes)
+
+  again : {x : Field} → x ≡ fieldOf kind (take len (drop start s)) → (g : Found) → g ≡ noted found x start len
+      → surveyBy g (walk (drop (start + len) s) 0 (start + len)) ≡ surveyBy nothing (walk (drop (k .before .before .before .before .before .before .before .args .from) s) 0 (k .before .before .before .before .before .before .before .args .from))
+  again e g n =
+      ap (λ (y : Found). surveyBy y (walk (drop (start + len) s) 0 (start + len))) (n ∙ ap (λ (y : Field). noted found y start len) e)
+      ∙ sym (survey-next s at found passes)
+      ∙ k .before .before .before .before .loop .inv
+
+-- what it says
+says : (f : tie.After-said Inv-loop μ-loop) → f .said .result ≡ fieldOf (kind (f .before .before)) (take (len (f .before .before)) (drop (start (f .before .before)) (s (f .before .before))))
 says f =
     let k = f .before .before in
-    let start = k .before .kind .given .0 .1 .0 in
-    let len = k .before .kind .given .0 .1 .1 .0 in
-    f .field-of .ensures ∙ ap (fieldOf (k .before .kind .given .0 .0)) (part-is (now (k .before .before .before .before .before .before .before .args .s)) start len)
+    f .said .ensures ∙ ap (fieldOf (kind k)) (part-is (s k) (start k) (len k))
 
-fits : (f : tie.After-field-of Inv-loop μ-loop) → Within (f .field-of .result) (f .before .before .before .kind .given .0 .1 .1 .0)
+fits : (f : tie.After-said Inv-loop μ-loop) → Within (f .said .result) (len (f .before .before))
 fits f =
     let k = f .before .before in
-    let l = k .before .before .before .before in
-    rw (says f) (next-within (now (l .before .before .before .args .s)) (l .loop .at) (l .loop .found) (passes k))
-
--- with what it adds, the loop goes on behind it
-less : (k : tie.After-known-told Inv-loop μ-loop)
-    → length (now (k .before .before .before .before .before .before .before .args .s)) - (k .before .kind .given .0 .1 .0 + k .before .kind .given .0 .1 .1 .0)
-    < length (now (k .before .before .before .before .before .before .before .args .s)) - k .before .before .before .before .loop .at
-less k =
-    let l = k .before .before .before .before in
-    let s = now (l .before .before .before .args .s) in
-    omega (arith, lies k, next-on s (l .loop .at) (passes k))
-
-again : (f : tie.After-field-of Inv-loop μ-loop) (g : Found)
-    → g ≡ noted (f .before .before .before .before .before .before .loop .found) (f .field-of .result) (f .before .before .before .kind .given .0 .1 .0) (f .before .before .before .kind .given .0 .1 .1 .0)
-    → gather g (walk (drop (f .before .before .before .kind .given .0 .1 .0 + f .before .before .before .kind .given .0 .1 .1 .0) (now (f .before .before .before .before .before .before .before .before .before .args .s))) 0 (f .before .before .before .kind .given .0 .1 .0 + f .before .before .before .kind .given .0 .1 .1 .0) .tlvs)
-    ≡ gather nothing (walk (drop (f .before .before .before .before .before .before .before .before .before .args .from) (now (f .before .before .before .before .before .before .before .before .before .args .s))) 0 (f .before .before .before .before .before .before .before .before .before .args .from) .tlvs)
-again f g e =
-    let k = f .before .before in
-    let l = k .before .before .before .before in
-    let s = now (l .before .before .before .args .s) in
-    let start = k .before .kind .given .0 .1 .0 in
-    let len = k .before .kind .given .0 .1 .1 .0 in
-    ap (λ (x : Found). gather x (walk (drop (start + len) s) 0 (start + len) .tlvs)) (e ∙ ap (λ (x : Field). noted (l .loop .found) x start len) (says f))
-    ∙ sym (gather-next s (l .loop .at) (l .loop .found) (passes k))
-    ∙ l .loop .inv
+    rw (says f) (next-within (s k) (at k) (found k) (passes k))
 
 -- the topic and the octets before its content
-within : (c : tie.After-known-told2 Inv-loop μ-loop)
-    → (c .before .topic .given .0 .0 ≤ management) × (c .before .topic .given .0 .1 .0 ≤ c .before .before .before .before .before .before .kind .given .0 .1 .1 .0)
+within : (c : tie.After-known-told4 Inv-loop μ-loop)
+    → (c .before .topic .given .0 .0 ≤ management) × (c .before .topic .given .0 .1 .0 ≤ len (c .before .before .before .before .before))
 within c = rw (c .before .topic .given .1) at (fits (c .before .before .before))
 
 has-mark : (c : tie.Else1 Inv-loop μ-loop) → c .before .before .topic .given .0 .0 < topics
@@ -91,21 +89,21 @@ loop-holds c = rw (c .nothing-found .ensures) refl
 step-at-requires : tie.Need-step-at-requires Inv-loop μ-loop
 step-at-requires c κs = search needs
 
-enum-told : tie.Need-enum-told Inv-loop μ-loop
-enum-told c = search needs
+enum-known-n : tie.Need-enum-known-n Inv-loop μ-loop
+enum-known-n c = search needs
 
 returns : tie.Need-returns Inv-loop μ-loop
 returns c =
-    let l = c .before .before .before in
-    sym (sym (l .loop .inv) ∙ gather-refused (now (l .before .before .before .args .s)) (l .loop .at) (l .loop .found) (sym (c .before .before .step-at .ensures) ∙ c .enum-told .given .1))
+    let l = c .before .before .before .before in
+    sym (sym (l .loop .inv) ∙ survey-refused (now (l .before .before .before .args .s)) (l .loop .at) (l .loop .found) (sym (c .before .before .before .step-at .ensures) ∙ c .before .n .given .1))
 
-enum-told-2 : tie.Need-enum-told-2 Inv-loop μ-loop
-enum-told-2 c = search needs
+enum-known-end : tie.Need-enum-known-end Inv-loop μ-loop
+enum-known-end c = search needs
 
 returns-2 : tie.Need-returns-2 Inv-loop μ-loop
 returns-2 c =
-    let l = c .before .before .before in
-    sym (sym (l .loop .inv) ∙ gather-end (now (l .before .before .before .args .s)) (l .loop .at) (l .loop .found) (sym (c .before .before .step-at .ensures) ∙ c .enum-told2 .given .1))
+    let l = c .before .before .before .before in
+    sym (sym (l .loop .inv) ∙ survey-end (now (l .before .before .before .args .s)) (l .loop .at) (l .loop .found) (sym (c .before .before .before .step-at .ensures) ∙ c .before .end .given .1))
 
 enum-known-kind : tie.Need-enum-known-kind Inv-loop μ-loop
 enum-known-kind c = search needs
@@ -113,35 +111,35 @@ enum-known-kind c = search needs
 add-end : tie.Need-add-end Inv-loop μ-loop
 add-end c = omega (arith, lies c)
 
-sub-field-of : tie.Need-sub-field-of Inv-loop μ-loop
-sub-field-of c = omega (arith, lies c)
+sub-said : tie.Need-sub-said Inv-loop μ-loop
+sub-said c = omega (arith, lies c)
 
-part-field-of-start : tie.Need-part-field-of-start Inv-loop μ-loop
-part-field-of-start c = omega (arith, lies c)
+part-said-start : tie.Need-part-said-start Inv-loop μ-loop
+part-said-start c = omega (arith, lies c)
 
-part-field-of-end : tie.Need-part-field-of-end Inv-loop μ-loop
-part-field-of-end c = omega (arith, lies c)
+part-said-end : tie.Need-part-said-end Inv-loop μ-loop
+part-said-end c = omega (arith, lies c)
 
-field-of-requires : tie.Need-field-of-requires Inv-loop μ-loop
-field-of-requires c κs = search needs
+said-requires : tie.Need-said-requires Inv-loop μ-loop
+said-requires c κs = search needs
 
-enum-told-3 : tie.Need-enum-told-3 Inv-loop μ-loop
-enum-told-3 c = search needs
+enum-told : tie.Need-enum-told Inv-loop μ-loop
+enum-told c = search needs
 
 loop-less : tie.Need-loop-less Inv-loop μ-loop
 loop-less c = less (c .before .before .before .before)
 
 loop-again : tie.Need-loop-again Inv-loop μ-loop
-loop-again c = let f = c .before .before in again f _ (noted-skipped _ _ _ (c .enum-told3 .given .1))
+loop-again c = again (c .before .before .before .before) (says (c .before .before)) _ (noted-skipped _ _ _ (c .enum-told .given .1))
 
-enum-told-4 : tie.Need-enum-told-4 Inv-loop μ-loop
-enum-told-4 c = search needs
+enum-told-2 : tie.Need-enum-told-2 Inv-loop μ-loop
+enum-told-2 c = search needs
 
 loop-less-2 : tie.Need-loop-less-2 Inv-loop μ-loop
 loop-less-2 c = less (c .before .before .before .before)
 
 loop-again-2 : tie.Need-loop-again-2 Inv-loop μ-loop
-loop-again-2 c = let f = c .before .before in again f _ (noted-malformed _ _ _ (c .enum-told4 .given .1))
+loop-again-2 c = again (c .before .before .before .before) (says (c .before .before)) _ (noted-malformed _ _ _ (c .enum-told2 .given .1))
 
 enum-known-topic : tie.Need-enum-known-topic Inv-loop μ-loop
 enum-known-topic c = search needs
@@ -161,8 +159,7 @@ loop-less-3 c = less (c .before .before .before .before .before .before .before 
 loop-again-3 : tie.Need-loop-again-3 Inv-loop μ-loop
 loop-again-3 c =
     let t = c .before .before .before .before in
-    let f = t .before .before in
-    again f _ (noted-address _ _ _ (t .topic .given .1) (c .before .before .if1 .taken) (c .with-part .ensures))
+    again (c .before .before .before .before .before .before .before .before) (says (t .before .before)) _ (noted-address _ _ _ (t .topic .given .1) (c .before .before .if1 .taken) (c .with-part .ensures))
 
 mul-marked : tie.Need-mul-marked Inv-loop μ-loop
 mul-marked c = omega (arith, has-mark c)
@@ -185,8 +182,7 @@ loop-less-4 c = less (c .before .before .before .before .before .before .before 
 loop-again-4 : tie.Need-loop-again-4 Inv-loop μ-loop
 loop-again-4 c =
     let t = c .before .before .before .before in
-    let f = t .before .before in
-    again f _ (noted-mark _ _ _ (t .topic .given .1) (c .before .before .if1 .left) (c .marked .ensures))
+    again (c .before .before .before .before .before .before .before .before) (says (t .before .before)) _ (noted-mark _ _ _ (t .topic .given .1) (c .before .before .if1 .left) (c .marked .ensures))
 
 pub gathered-spec : {M : Type 1} → statement M
 gathered-spec =
@@ -197,20 +193,20 @@ gathered-spec =
     nothing-found-requires
     loop-holds
     step-at-requires
-    enum-told
+    enum-known-n
     returns
-    enum-told-2
+    enum-known-end
     returns-2
     enum-known-kind
     add-end
-    sub-field-of
-    part-field-of-start
-    part-field-of-end
-    field-of-requires
-    enum-told-3
+    sub-said
+    part-said-start
+    part-said-end
+    said-requires
+    enum-told
     loop-less
     loop-again
-    enum-told-4
+    enum-told-2
     loop-less-2
     loop-again-2
     enum-known-topic

@@ -28,12 +28,12 @@ returns c =
     let o = n .before .before .before .before in
     let a = o .args in
     c .before .before .hear-known .ensures
-    ∙ saying-known (a .p) (a .sender) (a .l .now) (state (a .t) (a .buffer .now)) (o .pre .1 .1 .1) (n .place-of .ensures) (omega (arith, c .before .before .before .before .if1 .taken))
+    ∙ saying-known (a .p) (a .sender) (a .l .now) (state (a .t) (a .buffer .now)) (o .pre .1 .1 .1 .0) (o .pre .1 .1 .1 .1) (n .place-of .ensures) (omega (arith, c .before .before .before .before .if1 .taken))
 
 hear-new-requires : tie.Need-hear-new-requires
 hear-new-requires c κs =
     let o = c .before .before .before .before .before .before in
-    (o .pre .0, (o .pre .1 .0, (o .pre .1 .1 .0, ap (λ (w : Ident). w .chassis) (outline-ident (o .args .p) (o .args .l .now) (o .pre .1 .1 .1)))))
+    (o .pre .0, (o .pre .1 .0, (o .pre .1 .1 .0, ap (λ (w : Ident). w .chassis) (outline-ident (o .args .l .now) (o .pre .1 .1 .1 .0) (o .pre .1 .1 .1 .1) (o .args .p)))))
 
 same-length-2 : tie.Need-same-length-2
 same-length-2 c = search needs
@@ -44,7 +44,7 @@ returns-2 c =
     let o = n .before .before .before .before in
     let a = o .args in
     c .before .before .hear-new .ensures
-    ∙ saying-new (a .p) (a .sender) (a .l .now) (state (a .t) (a .buffer .now)) (o .pre .1 .1 .1) (n .place-of .ensures) (c .before .before .before .before .if1 .left)
+    ∙ saying-new (a .p) (a .sender) (a .l .now) (state (a .t) (a .buffer .now)) (o .pre .1 .1 .1 .0) (o .pre .1 .1 .1 .1) (n .place-of .ensures) (c .before .before .before .before .if1 .left)
 
 pub hear-spec : {M : Type 1} → statement M
 hear-spec =

@@ -4,7 +4,7 @@ use mathlib.Core.Path.{_≡_, refl, _∙_}
 use borrow.Author.Needs.{needs}
 use lib.ListN.{take, drop}
 use Rattle.place.specs.State.{state}
-use Rattle.hearing.proofs.ReplyLaws.{tells, unread-tells, frame-short, same-outline, saying-tells}
+use Rattle.hearing.proofs.ReplyLaws.{tells, unread-tells, frame-short, same-outline, saying-tells, is-octets}
 use Rattle.hearing.proofs.hear_frame.Statement.{statement}
 use Rattle.hearing.proofs.hear_frame.Tie as tie
 
@@ -38,7 +38,7 @@ hear-requires c κs =
     let o = r .before .before .before in
     let f = o .args .frame .now in
     let t = cut behind in
-    (o .pre .0, (o .pre .1, (frame-short f (r .outline-frame .ensures) (x .extent2 .given .1) t, same-outline f (r .outline-frame .ensures) (x .extent2 .given .1) t)))
+    (o .pre .0, (o .pre .1, (frame-short f (r .outline-frame .ensures) (x .extent2 .given .1) t, (same-outline f (r .outline-frame .ensures) (x .extent2 .given .1) t, is-octets (x .extent2 .given .1)))))
 
 returns : tie.Need-returns
 returns c =

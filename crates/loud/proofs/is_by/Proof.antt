@@ -1,11 +1,12 @@
 -- `loud::is_by` meets its contract: a free place and another port decide at once, else the chassis of what is kept.
 -- Each return is one law of a place that is asked for a chassis (by-free, by-other, by-chassis).
 use Prim.Native.Nat.{ℕ}
-use mathlib.Core.Path.{_≡_, ap, _∙_}
+use mathlib.Core.Path.{ap, _∙_}
 use mathlib.Core.List.{List}
 use denote.Ref.{now}
 use borrow.Author.Needs.{needs}
 use Rattle.ids.specs.Id.{Id, idMeant, sameId}
+use Rattle.ids.specs.declared.IdPart.{IdPart}
 use Rattle.rules.specs.Shares.{chassisIs}
 use Rattle.place.specs.State.{lldpduIn, recordPasses}
 use Rattle.loud.proofs.ByLaws.{by-free, by-other, by-chassis}
@@ -32,8 +33,8 @@ returns-2 c =
 lldpdu-at-requires : tie.Need-lldpdu-at-requires
 lldpdu-at-requires c κs = search needs
 
-outline-lldpdu-requires : tie.Need-outline-lldpdu-requires
-outline-lldpdu-requires c κs = search needs
+chassis-of-requires : tie.Need-chassis-of-requires
+chassis-of-requires c κs = search needs
 
 same-id-requires : tie.Need-same-id-requires
 same-id-requires c κs = search needs
@@ -46,10 +47,10 @@ returns-3 c =
     let b = two .before .before .before .before in
     let a = b .args in
     let l = now (taken .lldpdu-at .result) in
-    let told : c .same-id .result ≡ sameId (idMeant l (read .outline-lldpdu .result .chassis)) (asked b) = c .same-id .ensures in
-    told
-    ∙ by-chassis (a .length) (a .origin) l (a .p) (asked b) (two .before .if1 .left) (two .if2 .left) (read .outline-lldpdu .ensures)
+    c .same-id .ensures
+    ∙ ap (λ (i : IdPart). sameId (idMeant l i) (asked b)) (read .chassis-of .ensures)
+    ∙ by-chassis (a .length) (a .origin) l (a .p) (asked b) (two .before .if1 .left) (two .if2 .left)
     ∙ ap (λ (k : List ℕ). recordPasses (a .length) (a .origin) k (chassisIs (a .p) (asked b))) (taken .lldpdu-at .ensures)
 
 pub is-by-spec : {M : Type 1} → statement M
-is-by-spec = tie.close (tie.spec returns returns-2 lldpdu-at-requires outline-lldpdu-requires same-id-requires returns-3)
+is-by-spec = tie.close (tie.spec returns returns-2 lldpdu-at-requires chassis-of-requires same-id-requires returns-3)

@@ -1,92 +1,92 @@
--- `marks::check_used` meets its contract: each return is one law of a used place.
--- Extent, length, seconds left, zeros behind; then the mark of the identity that the outline tells.
-use mathlib.Core.Path.{_≡_, sym, _∙_}
+-- `marks::check_used` meets its contract: the first three TLVs or the walk behind them refuse, the LLDPDU has another length, or check_whole decides.
+-- The extent is that of the walk (lead-on).
+use mathlib.Core.Path.{_≡_, sym, ap, _∙_}
 use mathlib.Core.Bool.{true}
+use native.Mathlib.Omega.{arith}
 use denote.Ref.{now}
 use borrow.Author.Needs.{needs}
-use Rattle.marks.specs.PlaceFit.{whole}
-use Rattle.marks.proofs.CheckLaws.{used-refused, used-other, used-over, used-late, in-time, used-rest, used-fit}
+use Rattle.walk.specs.declared.Extent.the-variants.{Octets}
+use Rattle.lldpdu.specs.Extent.{extentOf}
+use Rattle.lldpdu.specs.Leading.{leadingOf}
+use Rattle.lldpdu.specs.declared.leading.Leading.the-variants as leading-is
+use Rattle.lldpdu.proofs.LeadingLaws.{led, lead-refused, lead-on}
+use Rattle.marks.proofs.CheckLaws.{used-refused, used-other}
 use Rattle.marks.proofs.check_used.Statement.{statement}
 use Rattle.marks.proofs.check_used.Tie as tie
 
-outline-lldpdu-requires : tie.Need-outline-lldpdu-requires
-outline-lldpdu-requires c κs = search needs
+leading-of-requires : tie.Need-leading-of-requires
+leading-of-requires c κs = search needs
 
 enum-told : tie.Need-enum-told
 enum-told c = search needs
 
-enum-known-extent : tie.Need-enum-known-extent
-enum-known-extent c = search needs
+enum-known-port : tie.Need-enum-known-port
+enum-known-port c = search needs
+
+-- where it began, and where TLVs 2 and 3 are found
+abbrev start : tie.After-known-told → tie.Start
+start c = c .before .before .before .before .before .before
+
+leads : (c : tie.After-known-told) → leadingOf (now (start c .args .l)) ≡ leading-is.At (c .before .port .given .0 .0) (c .before .port .given .0 .1 .0)
+leads c = sym (c .before .before .before .leading-of .ensures) ∙ c .before .port .given .1
+
+add-rest-extent : tie.Need-add-rest-extent
+add-rest-extent c = omega (arith, led (now (start c .args .l)) (leads c) .behind .near)
+
+rest-extent-requires : tie.Need-rest-extent-requires
+rest-extent-requires c κs = search needs
+
+enum-told-2 : tie.Need-enum-told-2
+enum-told-2 c = search needs
+
+enum-known-e : tie.Need-enum-known-e
+enum-known-e c = search needs
+
+-- the extent that was found
+reaches : (c : tie.After-known-told2) → extentOf (now (start (c .before .before .before .before) .args .l)) ≡ Octets (c .before .e .given .0 .0)
+reaches c =
+    let read = c .before .before .before in
+    let known = read .before in
+    lead-on (now (start known .args .l)) (leads known) true (read .rest-extent .ensures) ∙ c .before .e .given .1
 
 returns : tie.Need-returns
 returns c =
-    let known = c .before .before in
-    let read = known .before .before in
-    used-other _ _ _ _ (read .outline-lldpdu .ensures) (known .extent .given .1) (search needs)
+    let e = c .before in
+    let a = start (e .before .before .before .before) .args in
+    used-other (a .p) (a .left) (now (a .l)) (now (a .rest)) (reaches e) (search needs)
+
+check-whole-requires : tie.Need-check-whole-requires
+check-whole-requires c κs = let e = c .before in (reaches e ∙ ap Octets (c .if1 .left), leads (e .before .before .before .before))
 
 returns-2 : tie.Need-returns-2
 returns-2 c =
-    let known = c .before .before .before in
-    let read = known .before .before in
-    used-over _ _ _ _ (read .outline-lldpdu .ensures) (known .extent .given .1) (search needs)
+    let read = c .before .before in
+    let a = read .before .before .before .args in
+    used-refused (a .p) (a .left) (now (a .l)) (now (a .rest)) (lead-refused (now (a .l)) true (sym (read .leading-of .ensures) ∙ c .enum-told .given .1))
 
 returns-3 : tie.Need-returns-3
 returns-3 c =
-    let known = c .before .before .before .before .before in
-    let read = known .before .before in
-    let a = read .before .before .before .args in
-    used-late (a .p) (a .left) (now (a .l)) (now (a .rest)) (read .outline-lldpdu .ensures) (known .extent .given .1) (c .if3 .taken)
-
-all-zero-requires : tie.Need-all-zero-requires
-all-zero-requires c κs = search needs
-
-identity-mark-requires : tie.Need-identity-mark-requires
-identity-mark-requires c κs = search needs
+    let read = c .before .before in
+    let known = read .before in
+    let a = start known .args in
+    used-refused (a .p) (a .left) (now (a .l)) (now (a .rest)) (lead-on (now (a .l)) (leads known) true (read .rest-extent .ensures) ∙ c .enum-told2 .given .1)
 
 returns-4 : tie.Need-returns-4
-returns-4 c =
-    let read = c .before .before in
-    let a = read .before .before .before .args in
-    used-refused (a .p) (a .left) (now (a .l)) (now (a .rest)) (read .outline-lldpdu .ensures) (c .enum-told .given .1)
-
--- the tests that led to the last two returns
-abbrev start : tie.Else3 → tie.Start
-start c = c .before .before .before .before .before .before .before .before .before .before
-
-passed : (c : tie.Else3) → whole (now (start c .args .l)) (start c .args .left) ≡ true
-passed c =
-    let two = c .before .before in
-    let one = two .before in
-    let known = one .before .before in
-    let read = known .before .before in
-    let a = start c .args in
-    in-time (a .p) (a .left) (now (a .l)) (now (a .rest)) (read .outline-lldpdu .ensures) (known .extent .given .1) (one .if1 .left) (two .if2 .left) (c .if3 .left)
-
-returns-5 : tie.Need-returns-5
-returns-5 c =
-    let four = c .before in
-    let zero = four .before in
-    let read = zero .before .before .before .before .before .before .before .before in
-    used-fit _ _ _ _ (read .outline-lldpdu .ensures) (passed (zero .before)) (sym (zero .all-zero .ensures) ∙ four .if4 .taken) (c .identity-mark .ensures)
-
-returns-6 : tie.Need-returns-6
-returns-6 c =
-    let zero = c .before in
-    let read = zero .before .before .before .before .before .before .before .before in
-    used-rest _ _ _ _ (read .outline-lldpdu .ensures) (passed (zero .before)) (sym (zero .all-zero .ensures) ∙ c .if4 .left)
+returns-4 c = search needs
 
 pub check-used-spec : {M : Type 1} → statement M
 check-used-spec =
     tie.close
     (tie.spec
-    outline-lldpdu-requires
+    leading-of-requires
     enum-told
-    enum-known-extent
+    enum-known-port
+    add-rest-extent
+    rest-extent-requires
+    enum-told-2
+    enum-known-e
     returns
+    check-whole-requires
     returns-2
     returns-3
-    all-zero-requires
-    identity-mark-requires
-    returns-4
-    returns-5
-    returns-6)
+    returns-4)

@@ -1,16 +1,16 @@
 -- `numbers::beyond_sure` meets its contract: after p turns the sum is that over the ports below p.
 -- No port holds more than there are places (holds-le), so the sum fits.
-use Prim.Native.Nat.{ℕ, _+_, _*_, _-_, _≤_}
-use mathlib.Core.Path.{_≡_, sym, ap, ap₂, _∙_}
+use Prim.Native.Nat.{_*_, _-_, _≤_}
+use mathlib.Core.Path.{_≡_, sym, _∙_}
 use mathlib.Core.Logic.{⊎-elim}
 use native.Mathlib.Omega.{arith}
 use borrow.Author.Needs.{needs}
 use Rattle.tally.specs.Counts as counts
-use Rattle.tally.proofs.CountsLaws.{sum-none, sum-more}
+use Rattle.tally.proofs.CountsLaws.{sum-none}
 use Rattle.rules.specs.Shares.{sure}
 use Rattle.numbers.specs.Sizes.{ports, places}
 use Rattle.numbers.specs.Numbers.{holds}
-use Rattle.numbers.proofs.NumbersLaws.{holds-le, beyond-sum}
+use Rattle.numbers.proofs.NumbersLaws.{holds-le, beyond-more, beyond-sum}
 use Rattle.numbers.proofs.beyond_sure.Statement.{statement}
 use Rattle.numbers.proofs.beyond_sure.Tie as tie
 
@@ -47,11 +47,11 @@ loop-again c =
     let h = holds (l .before .args .t) in
     let n : c .before .held .result ≡ h (l .loop .p) = c .before .held .ensures in
     let m = holds-le (l .before .args .t) (l .loop .p) in
-    let more = sum-more (λ k. h k - sure) (l .loop .p) in (
+    let more = beyond-more h (l .loop .p) n (l .loop .inv .1 .1) in (
       search needs,
       (
         ⊎-elim (λ w. omega (arith, w .1)) (λ w. omega (arith, w .1)) (c .if1 .came),
-        ⊎-elim (λ w. w .1 ∙ ap₂ _+_ (l .loop .inv .1 .1) (ap (λ (x : ℕ). x - sure) n) ∙ sym more) (λ w. omega (arith, w .1)) (c .if1 .came),
+        ⊎-elim (λ w. w .1 ∙ more) (λ w. omega (arith, w .1, more)) (c .if1 .came),
       ),
     )
 

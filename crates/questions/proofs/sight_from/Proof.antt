@@ -6,7 +6,7 @@ use borrow.Author.Needs.{needs}
 use Rattle.numbers.specs.Sizes.{places}
 use Rattle.place.specs.State.{state, at}
 use Rattle.questions.specs.Sight.{namingInPlace, sightFrom}
-use Rattle.questions.proofs.QuestionLaws.{naming-there, passed-over, sight-step, sight-end}
+use Rattle.questions.proofs.QuestionLaws.{kept-valid, naming-there, passed-over, sight-step, sight-end}
 use Rattle.questions.proofs.sight_from.Statement.{statement}
 use Rattle.questions.proofs.sight_from.Tie as tie
 
@@ -26,7 +26,11 @@ element-copy-out-naming-in-place : tie.Need-element-copy-out-naming-in-place Inv
 element-copy-out-naming-in-place c = search needs
 
 naming-in-place-requires : tie.Need-naming-in-place-requires Inv-loop μ-loop
-naming-in-place-requires c κs = search needs
+unfolding at
+naming-in-place-requires c κs =
+    let l = c .before .before in
+    let start = l .before .before in
+    kept-valid (state (start .args .t1) (start .args .buffer .now)) (start .pre) (l .loop .i) (search needs)
 
 enum-known-named : tie.Need-enum-known-named Inv-loop μ-loop
 enum-known-named c = search needs

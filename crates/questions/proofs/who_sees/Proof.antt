@@ -11,7 +11,7 @@ is-fit-requires : tie.Need-is-fit-requires
 is-fit-requires c κs = search needs
 
 sight-from-requires : tie.Need-sight-from-requires
-sight-from-requires c κs = search needs
+sight-from-requires c κs = sym (c .before .is-fit .ensures) ∙ c .if1 .taken
 
 returns : tie.Need-returns
 returns c =

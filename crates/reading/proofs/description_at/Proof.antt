@@ -5,6 +5,12 @@ use borrow.Author.Needs.{needs}
 use Rattle.reading.proofs.description_at.Statement.{statement}
 use Rattle.reading.proofs.description_at.Tie as tie
 
+id-of-requires : tie.Need-id-of-requires
+id-of-requires c κs = search needs
+
+id-of-requires-2 : tie.Need-id-of-requires-2
+id-of-requires-2 c κs = search needs
+
 element-copy-out-part-at : tie.Need-element-copy-out-part-at
 element-copy-out-part-at c = search needs
 
@@ -59,6 +65,8 @@ system-at-requires c κs = search needs
 returns : tie.Need-returns
 returns c =
     rw (
+      c .before .before .before .before .before .before .before .before .before .before .before .before .before .before .before .before .before .before .id-of .ensures,
+      c .before .before .before .before .before .before .before .before .before .before .before .before .before .before .before .before .before .id-of2 .ensures,
       c .before .before .before .before .before .before .before .before .before .before .before .before .before .before .before .part-at .ensures,
       c .before .before .before .before .before .before .before .before .before .before .before .before .before .part-at2 .ensures,
       c .before .before .before .before .before .before .before .before .before .before .before .part-at3 .ensures,
@@ -75,6 +83,8 @@ pub description-at-spec : {M : Type 1} → statement M
 description-at-spec =
     tie.close
     (tie.spec
+    id-of-requires
+    id-of-requires-2
     element-copy-out-part-at
     part-at-requires
     element-copy-out-part-at-2

@@ -3,7 +3,6 @@
 use mathlib.Core.Path.{sym, _∙_}
 use borrow.Author.Needs.{needs}
 use Rattle.place.specs.State.{state}
-use Rattle.fitness.proofs.FitLaws.{fit-length}
 use Rattle.freeing.proofs.CallLaws.{lost-done, lost-port, lost-unfit}
 use Rattle.freeing.proofs.change.link_lost.Statement.{statement}
 use Rattle.freeing.proofs.change.link_lost.Tie as tie
@@ -15,7 +14,7 @@ cast-t11 : tie.Need-cast-t11
 cast-t11 c = search needs
 
 change-all-requires : tie.Need-change-all-requires
-change-all-requires c κs = fit-length _ (sym (c .before .before .before .is-fit .ensures) ∙ c .before .before .if1 .taken)
+change-all-requires c κs = sym (c .before .before .before .is-fit .ensures) ∙ c .before .before .if1 .taken
 
 same-length : tie.Need-same-length
 same-length c = search needs

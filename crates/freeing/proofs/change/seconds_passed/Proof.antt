@@ -3,7 +3,6 @@
 use mathlib.Core.Path.{sym, _∙_}
 use borrow.Author.Needs.{needs}
 use Rattle.place.specs.State.{state}
-use Rattle.fitness.proofs.FitLaws.{fit-length}
 use Rattle.freeing.proofs.CallLaws.{passed-done, passed-unfit}
 use Rattle.freeing.proofs.change.seconds_passed.Statement.{statement}
 use Rattle.freeing.proofs.change.seconds_passed.Tie as tie
@@ -12,7 +11,7 @@ is-fit-requires : tie.Need-is-fit-requires
 is-fit-requires c κs = search needs
 
 change-all-requires : tie.Need-change-all-requires
-change-all-requires c κs = fit-length _ (sym (c .before .before .is-fit .ensures) ∙ c .before .if1 .taken)
+change-all-requires c κs = sym (c .before .before .is-fit .ensures) ∙ c .before .if1 .taken
 
 same-length : tie.Need-same-length
 same-length c = search needs
