@@ -5,7 +5,7 @@
  * functions with structs, whose names begin with a noun: tambolune_table_frame, tambolune_frame_read. Use these.
  *
  * For both layers:
- * - A call returns a refusal number, 0 for none. A refusal changes nothing (R12, X4); a call on a table may write the
+ * - A call returns a refusal number, 0 for none. A refusal changes nothing (Q2, X4); a call on a table may write the
  *   octets that are there once more.
  * - Nothing is allocated, and the library keeps nothing between calls. Calls on different tables may run on
  *   different threads. One table is used by one thread at a time.
@@ -61,7 +61,7 @@ size_t tambolune_size_count(void);
 size_t tambolune_size_sight(void);
 size_t tambolune_size_header(void);
 
-/* Refusal numbers (R1 to R10, R13). Where several are due, R11 says which is given. */
+/* Refusal numbers (R1 to R10, R13). Where several are due, Q1 says which is given. */
 enum tambolune_refusal {
     TAMBOLUNE_NOT_REFUSED = 0,
     TAMBOLUNE_REFUSED_UNFIT = 1,        /* the table is not fit (N5), or a slice does not have its length (X2) */

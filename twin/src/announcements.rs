@@ -96,7 +96,7 @@ pub fn expected(cases: &[Case]) -> String {
     let mut text = String::new();
     for (case, number) in cases.iter().zip(1..) {
         let answer = write(&case.description, &case.text, case.room);
-        // What is past the written octets stays as it was (W4); after a refusal all does (R12).
+        // What is past the written octets stays as it was (W4); after a refusal all does (Q2).
         let mut output = vec![UNTOUCHED; case.room];
         match &answer {
             Ok(lldpdu) => {
@@ -317,7 +317,7 @@ mod tests {
         }
     }
 
-    /// A description that breaks a rule gives 9 whatever the room is (R11).
+    /// A description that breaks a rule gives 9 whatever the room is (Q1).
     #[test]
     fn nine_does_not_depend_on_the_room() {
         for case in cases().iter().filter(|case| case.meant == Err(9)) {

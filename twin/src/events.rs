@@ -15,8 +15,8 @@ mod desk;
 mod extension;
 mod last;
 mod loud;
-mod maker;
-mod random;
+pub(crate) mod maker;
+pub(crate) mod random;
 mod sender;
 mod spoils;
 
@@ -286,7 +286,7 @@ pub(crate) mod tests {
     }
 
     /// A new one of a chassis that holds three on the port gets 13, whatever the port holds and
-    /// whether common places are left or not (R11); of one that holds fewer each other answer. Known
+    /// whether common places are left or not (Q1); of one that holds fewer each other answer. Known
     /// ones and goodbyes are not refused for it (N13).
     #[test]
     fn no_loud_chassis_is_rare() {
@@ -396,8 +396,8 @@ pub(crate) mod tests {
         }
     }
 
-    /// A frame from a group address gets 3 where no 1 or 2 is due (F4, R11) and changes nothing
-    /// (R12). From stations these frames would have had each of the other answers.
+    /// A frame from a group address gets 3 where no 1 or 2 is due (F4, Q1) and changes nothing
+    /// (Q2). From stations these frames would have had each of the other answers.
     #[test]
     fn group_sources_keep_every_answer_away() {
         let mut desk = Desk::new();
@@ -687,7 +687,7 @@ pub(crate) mod tests {
         loud.expect("a chassis is too loud")
     }
 
-    /// 1 goes before 13 (R11): the frame would get it if nothing were spoiled.
+    /// 1 goes before 13 (Q1): the frame would get it if nothing were spoiled.
     #[test]
     fn loud_frames_are_tried_on_spoiled_tables() {
         let mut thirteen = Way::ALL.map(|(way, ..)| (way, 0));
@@ -708,7 +708,7 @@ pub(crate) mod tests {
             Event::Spoiled(trial) => Some(trial),
             _ => None,
         });
-        // 1 goes before the 3 that a group address as source gives (F4, R11).
+        // 1 goes before the 3 that a group address as source gives (F4, Q1).
         assert!(trials.clone().filter(|trial| is_from_a_group(&trial.frame)).count() >= 300);
         let lines = text.lines().filter(|line| line.contains(" spoiled "));
         let five = "refused 1 refused 1 refused 1 refused 1 refused 1";

@@ -1,9 +1,13 @@
-//! The twin of a verified LLDP/HTIP reader, writer and table: ordinary Rust, from the rules alone.
+//! The twin of a verified LLDP/HTIP reader, writer, table and replay: ordinary Rust, from the rules
+//! alone.
 //! It makes cases and the answers it expects, and another program's answers are compared with them.
 //! Beside the plain program, which is made to be read, stands a tuned one with the same answers, which
 //! is made for speed; another program's times are compared with its.
 
 pub mod announcements;
+pub mod capture;
+pub mod captures;
+mod digest;
 pub mod events;
 pub mod extension;
 pub mod frames;
@@ -11,6 +15,7 @@ pub mod id;
 mod numbers;
 pub mod reader;
 pub mod rng;
+pub mod site;
 pub mod table;
 pub mod tuned;
 pub mod writer;
@@ -30,6 +35,10 @@ pub fn files(kind: &str) -> Option<(Vec<u8>, String)> {
             let events = events::events();
             Some((events::case_file(&events), events::expected(&events)))
         }
+        "captures" => {
+            let cases = captures::cases();
+            Some((captures::case_file(&cases), captures::expected(&cases)))
+        }
         _ => None,
     }
 }
@@ -43,6 +52,7 @@ mod tests {
         assert!(frames::cases() == frames::cases());
         assert!(announcements::cases() == announcements::cases());
         assert!(events::events() == events::tests::stored().0);
+        assert!(captures::cases() == captures::tests::stored().0);
     }
 
     #[test]
@@ -50,6 +60,7 @@ mod tests {
         let [frames, announcements] =
             ["frames", "announcements"].map(|kind| files(kind).expect("there is such a kind"));
         let (events, text_of_events) = events::tests::stored();
+        let (captures, text_of_captures) = captures::tests::stored();
         let sizes = [
             (frames.0.len(), 1_190_000),
             (frames.1.len(), 1_990_000),
@@ -57,6 +68,8 @@ mod tests {
             (announcements.1.len(), 1_990_000),
             (events::case_file(events).len(), 1_430_000),
             (text_of_events.len(), 960_000),
+            (captures::case_file(captures).len(), 1_400_000),
+            (text_of_captures.len(), 200_000),
         ];
         println!("octets of cases and of text, and the most there may be: {sizes:?}");
         assert!(sizes.iter().all(|(octets, most)| octets <= most));

@@ -7,8 +7,8 @@ use crate::extension::Extension;
 use crate::id::Id;
 use crate::numbers::*;
 
-/// A refusal number: 3 to 6 for a frame, 4 to 6 for a bare LLDPDU (A1). The table adds 1, 2, 7 and
-/// 8, the writer 9 and 10.
+/// A refusal number: 3 to 6 for a frame, 4 to 6 for a bare LLDPDU (A1). The table adds 1, 2, 7, 8
+/// and 13, the writer 9 and 10, the replay 11 and 12.
 pub type Refusal = u8;
 
 pub type Address = [u8; 6];
@@ -204,7 +204,7 @@ struct Tlv {
     value: Vec<u8>,
 }
 
-/// Takes one TLV off the front. Running out is judged before type and length are (R11).
+/// Takes one TLV off the front. Running out is judged before type and length are (Q1).
 fn take_tlv(rest: &mut &[u8]) -> Result<Tlv, Refusal> {
     let (header, behind) = rest.split_first_chunk::<2>().ok_or(RUNS_OUT)?;
     let joined = u16::from_be_bytes(*header);

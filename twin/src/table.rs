@@ -1,5 +1,5 @@
 //! The neighbour table of a cell: the places over a lent buffer, and the six calls on them.
-//! Each call judges the fitness of what it is handed first, and a refusal changes nothing (R12).
+//! Each call judges the fitness of what it is handed first, and a refusal changes nothing (Q2).
 
 use std::ops::Range;
 
@@ -133,7 +133,7 @@ impl Table {
         Ok(())
     }
 
-    /// Frame on a port (N7). Refusals come in the order of R11.
+    /// Frame on a port (N7). Refusals come in the order of Q1.
     pub fn frame_on_port(
         &mut self,
         buffer: &mut [u8],
@@ -306,7 +306,7 @@ impl Table {
         buffer[octets_of(place)].get(..usize::from(self.length[place]))
     }
 
-    /// The lowest free place, or 13, or 7, or 8, in the order of R11 (N4, N12, N13). A fit table has a
+    /// The lowest free place, or 13, or 7, or 8, in the order of Q1 (N4, N12, N13). A fit table has a
     /// free place where none is due: its 4n places are two sure ones for each of n ports and 2n common
     /// ones.
     fn place_for_a_new_one(

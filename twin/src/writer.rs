@@ -138,7 +138,7 @@ impl<S> Description<S> {
 }
 
 /// The LLDPDU without a frame header, to stand at the front of an output buffer with that much room
-/// (W4). A refusal is a number alone (R12).
+/// (W4). A refusal is a number alone (Q2).
 pub fn write(description: &Description, text: &[u8], room: usize) -> Result<Vec<u8>, Refusal> {
     // A part that is not written, being empty, has to lie in the text all the same (W7).
     let lldpdu = description

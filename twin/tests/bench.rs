@@ -146,7 +146,7 @@ fn what_is_a_chassis() {
         assert_eq!(read_frame(&frame), Err(4), "{chassis:?}");
         assert_eq!(outline_lldpdu(&frame[14..]), Err(4));
         assert_eq!(name_link(&frame[14..], NO_STATION), Err(4));
-        // 5 goes before 4 where the chassis ID is not there to its end (R11).
+        // 5 goes before 4 where the chassis ID is not there to its end (Q1).
         for cut in [1, first.len() - 2, first.len() - 1] {
             assert_eq!(read_frame(&frame[..14 + cut]), Err(5));
         }
@@ -314,7 +314,7 @@ fn end_in_place_of_a_leading_tlv() {
 
 #[test]
 fn running_out_goes_before_wrong_at_one_tlv() {
-    // Type 5 in the first place, and its body is not all there (R11).
+    // Type 5 in the first place, and its body is not all there (Q1).
     assert_eq!(read_frame(&[&HEADER[..], &[0x0A, 0x07, 0x04]].concat()), Err(5));
     // Type 127 with L = 3 as the last thing, with two octets of body.
     assert_eq!(read_frame(&[&FRAME_A[..END], &[0xFE, 0x03, 0xE0, 0x27]].concat()), Err(5));

@@ -120,7 +120,7 @@ fn what_lost_its_place_does_not_count() {
     watch.refuses(13, |watch| watch.frame(2, &one_of(1, 1)).err());
 }
 
-/// On a port that holds six 13 is due exactly where the chassis holds three there (N12, R11).
+/// On a port that holds six 13 is due exactly where the chassis holds three there (N12, Q1).
 #[test]
 fn thirteen_before_seven() {
     for port in [0, LAST_PORT] {
@@ -154,7 +154,7 @@ fn taking(common: usize) -> Vec<(usize, u8)> {
 }
 
 /// The common places are taken. On a port that holds two to five 13 is due exactly where the chassis
-/// holds three there, and otherwise 8 (N12, R11).
+/// holds three there, and otherwise 8 (N12, Q1).
 #[test]
 fn thirteen_before_eight() {
     for port in [0, LAST_PORT] {
@@ -181,7 +181,7 @@ fn thirteen_before_eight() {
     }
 }
 
-/// 1, 2, 3, and what the TLVs give, go before 13 (R11).
+/// 1, 2, 3, and what the TLVs give, go before 13 (Q1).
 #[test]
 fn earlier_refusals_before_thirteen() {
     let mut watch = Watch::hearing(held(2, &[3]));

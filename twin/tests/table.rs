@@ -1,4 +1,4 @@
-//! The table's rules N1 to N12, R1 to R12 and the run cases B13, as ordinary tests.
+//! The table's rules N1 to N12, R1 to Q2 and the run cases B13, as ordinary tests.
 //! Octets and expected values are typed from the rules page by hand, never taken from the program,
 //! but for the sizes that follow from the number of ports; one test holds those to the page.
 
@@ -284,7 +284,7 @@ fn a_freed_place_has_no_sender() {
     assert_eq!(watch, Watch::started());
 }
 
-/// Refusals and an unknown goodbye leave the senders of the records (N7, R12).
+/// Refusals and an unknown goodbye leave the senders of the records (N7, Q2).
 #[test]
 fn frames_that_change_nothing_leave_the_senders() {
     let mut watch = Watch::of_b13();
@@ -429,7 +429,7 @@ fn the_run_cases() {
 
 #[test]
 fn seven_before_eight() {
-    // The common places are taken and the port holds six: 8 needs two to five (R11).
+    // The common places are taken and the port holds six: 8 needs two to five (Q1).
     let mut watch = Watch::of_b13();
     for port in 0..HALF {
         watch.refuses(7, |watch| watch.frame(port, &neighbour(99)).err());

@@ -1,5 +1,5 @@
 //! The tuned peer gives the answers of the plain program: on every stored case, and on seeded damage.
-//! After each call on a table the answer, the table and the whole buffer are compared (R12).
+//! After each call on a table the answer, the table and the whole buffer are compared (Q2).
 
 use twin::events::{Event, Trial};
 use twin::frames::Kind;

@@ -1,4 +1,4 @@
-//! The writer's rules (W1 to W7, R9 to R12) and the readings of open points, as ordinary tests.
+//! The writer's rules (W1 to W7, R9 to Q2) and the readings of open points, as ordinary tests.
 //! Octets and expected values are typed from the rules page by hand, never taken from the program.
 
 mod described;

@@ -1,14 +1,13 @@
 // What the events print: the words of each answer, and the digest of a table with its buffer.
 // An answer is made into numbers; a form, which is named by its number, says what stands between them.
+use digest::digest_of;
 use forms::put_form;
 use libc::STDOUT_FILENO;
 use reader::Part;
 use reader::text_of;
 use table::Answer;
 use table::Count;
-use table::PLACES;
 use table::Reply;
-use table::Sender;
 use table::Sight;
 use table::Table;
 
@@ -101,54 +100,6 @@ pub(crate) fn say_sight(s: Sight) {
     }
 }
 
-// One value more. The modulus is the greatest prime number of 32 bits.
-fn mixed(h: u32, value: u16) -> u32 {
-    ((h as u64 * 31 + value as u64 + 1) % 4294967291) as u32
-}
-
-fn wide(b: u8) -> u16 {
-    b as u16
-}
-
-fn mixed_octets(h: u32, s: &[u8]) -> u32 {
-    let mut mix = h;
-    for i in 0..s.len() {
-        mix = mixed(mix, wide(s[i]));
-    }
-    mix
-}
-
-fn mixed_numbers(h: u32, s: &[u16]) -> u32 {
-    let mut mix = h;
-    for i in 0..s.len() {
-        mix = mixed(mix, s[i]);
-    }
-    mix
-}
-
-// A call of its own, so that the number of octets is known.
-fn mixed_sender(h: u32, s: [u8; 6]) -> u32 {
-    mixed_octets(h, &s)
-}
-
-fn mixed_senders(h: u32, s: [Sender; PLACES]) -> u32 {
-    let mut mix = h;
-    for i in 0..PLACES {
-        let sender = s[i];
-        let octets = sender.octets;
-        mix = mixed_sender(mix, octets);
-    }
-    mix
-}
-
-// The digest goes over the ports, the seconds, the lengths, the senders and then every octet of the buffer.
 pub(crate) fn say_digest(t: Table, buffer: &[u8]) {
-    let port = t.port;
-    let seconds = t.seconds;
-    let length = t.length;
-    let sender = t.sender;
-    let ports = mixed_octets(0, &port);
-    let numbers = mixed_numbers(mixed_numbers(ports, &seconds), &length);
-    let senders = mixed_senders(numbers, sender);
-    say(DIGEST, mixed_octets(senders, buffer) as usize);
+    say(DIGEST, digest_of(t, buffer) as usize);
 }

@@ -49,7 +49,7 @@ lookedAt s = take 65535 s
 abbrev pub writeRight : List ℕ → List ℕ → Bool
 writeRight o a = both (eqb (length o) size) (eqb (length a) writtenLong)
 
--- what was written stands in front of what was in the output; a refusal writes nothing (W4, R12)
+-- what was written stands in front of what was in the output; a refusal writes nothing (W4, Q2)
 abbrev pub onWritten : Written → List ℕ → Description → List ℕ → List ℕ → Back
 onWritten w s d out a = back (refusalOfWritten w) (over (octetsWritten w) (encode (saidBy s d)) out ∷ writtenOctets w a ∷ [])
 

@@ -1,5 +1,5 @@
 -- The refusals that come first in every call but Start: 1 where the table is not fit (R1), then, where there is a port, 2 if it is none (R2).
--- They are given in the order of R11.
+-- They are given in the order of Q1.
 use Prim.Native.Nat.{ℕ}
 use mathlib.Core.Bool.{not}
 use mathlib.Core.List.{[], _∷_}

@@ -1,5 +1,5 @@
 -- Laws of the calls that answer done or a refusal: the contract of each return, as the code has it.
--- A test's value gives both the outcome and the refusal number, in the order of R11.
+-- A test's value gives both the outcome and the refusal number, in the order of Q1.
 use Prim.Native.Nat.{ℕ, _≤_, _<_}
 use mathlib.Core.Path.{_≡_, refl, ap, _∙_}
 use mathlib.Core.List.{List}

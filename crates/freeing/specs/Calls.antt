@@ -1,5 +1,5 @@
 -- The calls that answer done or a refusal: Start (N6), seconds passed (N8), link lost (N9).
--- Each gives the answer, the four arrays and every octet of the buffer; and its refusal number by R1, R2 and R11.
+-- Each gives the answer, the four arrays and every octet of the buffer; and its refusal number by R1, R2 and Q1.
 use Prim.Native.Nat.{ℕ}
 use mathlib.Core.Path.{_≡_}
 use mathlib.Core.Bool.{not}

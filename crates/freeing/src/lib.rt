@@ -25,7 +25,7 @@ pub struct Outcome {
     pub answer: Answer,
 }
 
-// A refusal returns its number, and the table as it was (R12).
+// A refusal returns its number, and the table as it was (Q2).
 pub(crate) fn refuse(t: Table, n: u8) -> Outcome
     ensures { λ r. ⌜ r ≡ refusedOutcome t n ⌝ }
 {

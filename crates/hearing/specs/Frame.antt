@@ -87,7 +87,7 @@ onHeard (says a) p s = heardSaying p a s
 unfoldable pub heard : ℕ → List ℕ → State → Told
 heard p f s = pick (fit s) (pick (ltb p ports) (onHeard (heardOf f) p s) (telling (Refused 2) s)) (telling (Refused 1) s)
 
--- The refusal number, row by row in the order of R11: R1 to R3, the TLVs front to back, and behind the End what a valid LLDPDU leads to
+-- The refusal number, row by row in the order of Q1: R1 to R3, the TLVs front to back, and behind the End what a valid LLDPDU leads to
 
 -- a new identity with seconds above 0, of a chassis that holds `own` on a port that holds h: 13 where the chassis holds three,
 -- 7 where the port holds six, 8 where it holds two to five and the common places are taken

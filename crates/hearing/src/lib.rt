@@ -1,5 +1,5 @@
 // A frame on a port (N7): recorded, refreshed, gone, unknown goodbye, or refused with its number.
-// Refusals are decided front to back before the first store (R11, R12).
+// Refusals are decided front to back before the first store (Q1, Q2).
 ghost use mathlib.Core.Path.{_≡_};
 ghost use Prim.Native.Nat.{_≤_, _<_};
 ghost use mathlib.Core.Bool.{true};

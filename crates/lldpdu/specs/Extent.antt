@@ -1,4 +1,4 @@
--- The extent of an LLDPDU: the first three TLVs (L3 to L6), then the walk to End; refusals 4 to 6 front to back (R4 to R6, R11).
+-- The extent of an LLDPDU: the first three TLVs (L3 to L6), then the walk to End; refusals 4 to 6 front to back (R4 to R6, Q1).
 -- Each TLV begins where the one before it ends, by the L of that one.
 use Prim.Native.Nat.{ℕ, _+_, _-_}
 use mathlib.Core.List.{List}

@@ -1,5 +1,5 @@
 -- The outline of an LLDPDU: extent, chassis, port ID and seconds (A1).
--- What stands beside a refusal is 0 throughout, so that a refusal fixes the whole answer (R12).
+-- What stands beside a refusal is 0 throughout, so that a refusal fixes the whole answer (Q2).
 use Prim.Native.Nat.{ℕ, _+_, _-_}
 use mathlib.Core.List.{List}
 use lib.ListN.{getD}

@@ -1,4 +1,4 @@
--- Refusals 4, 5 and 6 as rows, TLV by TLV from the front (R4, R5, R6, R11): 4 or 6 is asked only of a TLV that is whole, so 5 goes before them.
+-- Refusals 4, 5 and 6 as rows, TLV by TLV from the front (R4, R5, R6, Q1): 4 or 6 is asked only of a TLV that is whole, so 5 goes before them.
 -- A row is asked only where none before it is due; the first that is due is the refusal that extentOf gives (RowsLaws.antt).
 use Prim.Native.Nat.{ℕ, zero, suc}
 use mathlib.Core.List.{List, [], _∷_}

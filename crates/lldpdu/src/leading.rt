@@ -1,5 +1,5 @@
 // The first three TLVs: whether they are as they should be, and where they begin, before anything behind them is looked at.
-// They are judged front to back (R11).
+// They are judged front to back (Q1).
 ghost use mathlib.Core.Path.{_≡_};
 ghost use Prim.Native.Nat.{_≤_, _<_};
 ghost use Rattle.lldpdu.specs.Extent.{lengthAt, portPlace};

@@ -1,5 +1,5 @@
 // The outline of an LLDPDU: validity, identity and seconds, without the fields behind them.
-// TLVs are judged front to back (R11). A refusal carries its number and nothing else: all that stands beside it is 0.
+// TLVs are judged front to back (Q1). A refusal carries its number and nothing else: all that stands beside it is 0.
 ghost use mathlib.Core.Path.{_≡_};
 ghost use Prim.Native.Nat.{_+_, _≤_};
 ghost use lib.ListN.{length, drop};

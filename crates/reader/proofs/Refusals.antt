@@ -1,4 +1,4 @@
--- The refusal of a frame, row by row: 3 exactly where length, destination, type or source is not as F1 to F4 say, then 4 to 6 by the TLVs (R3 to R6, R11).
+-- The refusal of a frame, row by row: 3 exactly where length, destination, type or source is not as F1 to F4 say, then 4 to 6 by the TLVs (R3 to R6, Q1).
 -- It holds of any answer that has an LLDPDU's refusal for its number, so of the outline and of the whole reading.
 use Prim.Native.Nat.{ℕ}
 use mathlib.Core.Path.{_≡_, refl, ap}

@@ -50,7 +50,7 @@ frameOk f = all (frameTests f)
 unfoldable pub onFrame : {A : Type 0} → A → (List ℕ → A) → List ℕ → A
 onFrame three answer f = pick (frameOk f) (answer (lldpduOf f)) three
 
--- refusals row by row: 3 (R3), then the TLVs front to back (R4 to R6, R11), then the rows `rest`
+-- refusals row by row: 3 (R3), then the TLVs front to back (R4 to R6, Q1), then the rows `rest`
 abbrev pub frameRows : List ℕ → List (Bool × ℕ) → List (Bool × ℕ)
 frameRows f rest = (not (frameOk f), 3) ∷ rowsOf (lldpduOf f) rest
 

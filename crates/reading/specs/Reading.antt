@@ -88,7 +88,7 @@ refusedReading n =
           };
     }
 
--- a refusal fixes the whole answer (R12)
+-- a refusal fixes the whole answer (Q2)
 abbrev pub readingAt : Extent → List ℕ → Reading
 readingAt (Refused n) s = refusedReading n
 readingAt (Octets e) s = record { extent = Octets e; htip = htipIn (foundIn s); description = descriptionAt s (outlineAt (Octets e) s) (foundIn s) }

@@ -1,4 +1,4 @@
--- A refusal changes nothing (R12): whatever the table and the octets are, fit or not, an answer that is a refusal leaves them as they were.
+-- A refusal changes nothing (Q2): whatever the table and the octets are, fit or not, an answer that is a refusal leaves them as they were.
 -- It is read off the definitions of the calls, case by case. Then the one refusal that is for who sent the frame (F4).
 use Prim.Native.Nat.{ℕ, _<_}
 use mathlib.Core.Path.{_≡_, refl, sym, _∙_}

@@ -1,5 +1,5 @@
 -- Refusals as rows, each with its test and its number: the first row that is due gives the number.
--- The order of the rows is the order in which one refusal goes before another (R11).
+-- The order of the rows is the order in which one refusal goes before another (Q1).
 use Prim.Native.Nat.{ℕ}
 use mathlib.Core.List.{List, [], _∷_}
 use mathlib.Core.Bool.{Bool}

@@ -48,7 +48,7 @@ pub enum Step {
     Next { kind: u8, start: usize, len: usize },
 }
 
-// At one TLV, a header or body that runs past the end comes first (R11).
+// At one TLV, a header or body that runs past the end comes first (Q1).
 pub fn step_at(s: &[u8], at: usize) -> Step
     ensures { λ r. ⌜ r ≡ stepOf (headOf (drop at (now (s .entry)))) at ⌝ }
 {

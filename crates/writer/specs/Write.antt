@@ -1,4 +1,4 @@
--- What the writer answers and what it leaves in the output: 9 before 10 (R9, R10, R11), and no octet changed by a refusal (R12).
+-- What the writer answers and what it leaves in the output: 9 before 10 (R9, R10, Q1), and no octet changed by a refusal (Q2).
 -- Behind what was written the output stays as it was (W4).
 use Prim.Native.Nat.{ℕ}
 use mathlib.Core.Path.{_≡_}

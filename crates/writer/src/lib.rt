@@ -32,8 +32,8 @@ const NO_ROOM: u8 = 10;
 // Room for the longest, and for one octet more, so that a longer one shows.
 const ROOM: usize = LONGEST + 1;
 
-// Writes the LLDPDU of a description to the front of out (W1, W4); 9 goes before 10 (R11).
-// It is put into a room of its own first: what is refused must not touch out (R12), and its size is known only then.
+// Writes the LLDPDU of a description to the front of out (W1, W4); 9 goes before 10 (Q1).
+// It is put into a room of its own first: what is refused must not touch out (Q2), and its size is known only then.
 pub fn write(d: Description, text: &[u8], out: &mut [u8]) -> Written
     ensures { λ r. ⌜ Writes (now (text .entry)) d (now (out .entry)) r (now (out .exit)) ⌝ }
 {

@@ -269,7 +269,7 @@ impl Maker {
         }
     }
 
-    /// Buffers that are too short by little, exact and longer; 9 goes before 10 (R10, R11, W4).
+    /// Buffers that are too short by little, exact and longer; 9 goes before 10 (R10, Q1, W4).
     fn rooms_for_extensions(&mut self) {
         for body in [Shape::plain().body(), rich_shape().body()] {
             let plan = self.some_extended(body.clone());

@@ -235,7 +235,7 @@ impl Maker {
         }
     }
 
-    /// The same for descriptions that break a rule: 9 goes before 10 (R11).
+    /// The same for descriptions that break a rule: 9 goes before 10 (Q1).
     fn rooms_for_broken(&mut self) {
         let mut plans = vec![self.full(); 11];
         plans[0].port.subtype = 8;

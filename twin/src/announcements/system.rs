@@ -265,7 +265,7 @@ impl Maker {
         self.with_system(plan)
     }
 
-    /// Buffers that are too short by little, exact and longer; 9 goes before 10 (R10, R11, W4).
+    /// Buffers that are too short by little, exact and longer; 9 goes before 10 (R10, Q1, W4).
     fn rooms_for_systems(&mut self) {
         let plan = self.full_with_system();
         let length = plan.length();

@@ -110,7 +110,7 @@ impl Maker {
         let whole = announced(&first, 120);
         self.hear_behind(header, 0, whole[..whole.len() - 1].to_vec());
         self.hear_behind(header, 0, first.announcement(120, &[seconds()]));
-        // 2 and 1 go before 3 (R11).
+        // 2 and 1 go before 3 (Q1).
         self.frame_behind(header, PORTS, &first, 120);
         self.call(Event::Lend(BUFFER_OCTETS - 1));
         self.frame_behind(header, 0, &first, 120);

@@ -2,6 +2,7 @@
 //! It does what an event says and tells the answer in the words of the expected text.
 
 use super::{Event, Trial};
+use crate::digest::digest;
 use crate::frames::or_refused;
 use crate::table::{
     buffer_octets, octets_of, Reply, Sighting, Table, BUFFER_OCTETS, PLACE_OCTETS, PORTS,
@@ -21,8 +22,6 @@ pub const WRONG_LENGTHS: [usize; 7] = [
     BUFFER_OCTETS + 1,
     BUFFER_OCTETS + PLACE_OCTETS,
 ];
-
-const DIGEST_MODULUS: u64 = 4_294_967_291;
 
 #[derive(Clone)]
 pub struct Desk {
@@ -50,7 +49,7 @@ impl Desk {
             return Some(self.trial(trial));
         }
         let answer = self.act(event)?;
-        Some(format!("{answer} {}", self.digest()))
+        Some(format!("{answer} {}", digest(&self.table, self.buffer())))
     }
 
     /// The answer to a call, or none for a preparation, which is done without a word.
@@ -109,7 +108,7 @@ impl Desk {
             Event::WhoSees { address, from: number },
         ];
         let answers: Vec<String> = calls.iter().filter_map(|call| self.act(call)).collect();
-        let spoiled = self.digest();
+        let spoiled = digest(&self.table, self.buffer());
         let start = self.line(&Event::Start).expect("Start is a call");
         self.take_back();
         format!("spoiled {} {spoiled} {start}", answers.join(" "))
@@ -118,17 +117,6 @@ impl Desk {
     pub fn take_back(&mut self) {
         (self.table, self.store) = self.kept.clone();
         self.lent = BUFFER_OCTETS;
-    }
-
-    /// A digest of all numbers, of all senders and of all octets of the buffer given.
-    fn digest(&self) -> u64 {
-        let port = self.table.port.map(u64::from);
-        let seconds = self.table.seconds.map(u64::from);
-        let length = self.table.length.map(u64::from);
-        let senders = self.table.sender.as_flattened();
-        let octets = senders.iter().chain(self.buffer()).map(|&octet| u64::from(octet));
-        let values = port.into_iter().chain(seconds).chain(length).chain(octets);
-        values.fold(0, |h, value| (h * 31 + value + 1) % DIGEST_MODULUS)
     }
 }
 

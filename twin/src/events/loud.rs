@@ -99,7 +99,7 @@ impl Maker {
         self.call(Event::Lost { port });
     }
 
-    /// The refusals that go before 13 (R11), for a chassis of each kind (L3).
+    /// The refusals that go before 13 (Q1), for a chassis of each kind (L3).
     fn what_goes_before(&mut self, kind: usize) {
         let port = LAST_PORT - kind;
         let nth = |number| alike(kind, 0, number);
@@ -188,7 +188,7 @@ impl Maker {
         }
     }
 
-    /// The common places are taken. A fourth of the loud chassis: 13. Of the other: 8 (R11).
+    /// The common places are taken. A fourth of the loud chassis: 13. Of the other: 8 (Q1).
     fn thirteen_and_eight(&mut self, nth: Nth, port: usize) {
         self.hear_each(port, [0, 1].map(|of| (nth(port, of, 8), LONG)));
     }

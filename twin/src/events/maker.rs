@@ -45,7 +45,11 @@ impl Agent {
 
 impl Maker {
     pub fn new() -> Self {
-        let frames = FrameMaker { rng: Rng::new(rng::EVENTS), cases: vec![] };
+        Maker::seeded(rng::EVENTS)
+    }
+
+    pub fn seeded(seed: u64) -> Self {
+        let frames = FrameMaker { rng: Rng::new(seed), cases: vec![] };
         Maker { frames, events: Vec::new(), desk: Desk::new(), unseen: [0; PORTS + 1] }
     }
 

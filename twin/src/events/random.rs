@@ -183,7 +183,7 @@ impl Maker {
 
     /// A frame of a known agent, one much like it, or any; sometimes with a fault, or from a group
     /// address (F4).
-    fn random_frame(&mut self, ports: &[usize]) -> Event {
+    pub fn random_frame(&mut self, ports: &[usize]) -> Event {
         let (port, mut agent) = self.random_identity(ports);
         let header = self.random_header(port, &agent);
         if self.rng().once_in(25) {

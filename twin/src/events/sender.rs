@@ -82,7 +82,7 @@ impl Maker {
     }
 
     /// The records are from another source than these frames. What is refused leaves their senders
-    /// (R12), and an unknown goodbye does (N7).
+    /// (Q2), and an unknown goodbye does (N7).
     fn answers_to_another_source(&mut self, [_, second, _]: &Headers) {
         self.ports_of_b13(six_octets);
         self.each_answer_to(&from_a_group(second.clone()));

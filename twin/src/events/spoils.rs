@@ -115,7 +115,7 @@ impl Maker {
     }
 
     /// Nothing may hide behind a wrong port, a group address as source, a damaged frame, a start
-    /// past the last place, or a chassis that holds three on its port (R11).
+    /// past the last place, or a chassis that holds three on its port (Q1).
     fn trial(&mut self, way: Way) -> Trial {
         let mut number = match self.rng().below(6) {
             0 => self.random_port(&[PORTS]),

@@ -17,7 +17,7 @@ impl Maker {
     }
 
     /// Each chassis ID whole, and without its last octet: 5, whatever L, subtype and characters are
-    /// (R11).
+    /// (Q1).
     fn right_and_wrong(&mut self) {
         for id in [right_chassis(), wrong_chassis()].concat() {
             let whole = id_tlv(1, &id);
@@ -103,7 +103,7 @@ impl Maker {
         }
     }
 
-    /// A fault behind the chassis ID: it decides exactly if the chassis is right (R11).
+    /// A fault behind the chassis ID: it decides exactly if the chassis is right (Q1).
     fn two_faults(&mut self) {
         let faults = [
             vec![],

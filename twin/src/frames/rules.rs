@@ -60,7 +60,7 @@ impl Maker {
             let filled = self.filled(length - HEADER + 1);
             self.frame(filled[..filled.len() - 1].to_vec());
 
-            // The length is judged before a wrong first TLV and before a wrong later one (R11).
+            // The length is judged before a wrong first TLV and before a wrong later one (Q1).
             for inside in [end(), lldpdu(&leading(), &[seconds()])] {
                 let frame = [self.header(), inside].concat();
                 self.raw(padded(&frame, length));
@@ -118,7 +118,7 @@ impl Maker {
         ] {
             self.raw(headed(destination, SOUGHT, LLDP, &inside));
         }
-        // A wrong type or source goes before wrong TLVs (F3, F4, R11).
+        // A wrong type or source goes before wrong TLVs (F3, F4, Q1).
         for inside in [vec![], end(), lldpdu(&leading(), &[chassis()]), leading().concat()] {
             self.raw(headed(EVERYONE, SOUGHT, [0x88, 0xCD], &inside));
             self.raw(headed(EVERYONE, NO_STATION, LLDP, &inside));
@@ -240,7 +240,7 @@ impl Maker {
         }
     }
 
-    /// The LLDPDU ends within a TLV that is wrong besides, or right behind it (R5, R11).
+    /// The LLDPDU ends within a TLV that is wrong besides, or right behind it (R5, Q1).
     fn cuts(&mut self) {
         for place in 0..3 {
             let before = leading()[..place].concat();
@@ -303,7 +303,7 @@ impl Maker {
         self.frame(whole);
     }
 
-    /// Two faults in one LLDPDU: the earlier TLV decides (R11).
+    /// Two faults in one LLDPDU: the earlier TLV decides (Q1).
     fn order_of_refusals(&mut self) {
         let cut = tlv_claiming(9, 20, &[0; 19]);
         let without_subtype = tlv(127, &TTC);

@@ -280,7 +280,7 @@ impl Maker {
     }
 
     /// What is refused is refused beside system fields too, and they in place of the first three
-    /// (R4, R6, R11).
+    /// (R4, R6, Q1).
     fn faults_besides_system_fields(&mut self) {
         let faults = [chassis(), port(), seconds(), tlv(0, &[0]), tlv(127, &TTC)];
         for fault in faults {

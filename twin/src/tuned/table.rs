@@ -23,7 +23,7 @@ pub fn start(table: &mut Table, buffer: &mut [u8]) -> Result<(), Refusal> {
     Ok(())
 }
 
-/// Frame on a port (N7). Refusals come in the order of R11.
+/// Frame on a port (N7). Refusals come in the order of Q1.
 pub fn frame_on_port(
     table: &mut Table,
     buffer: &mut [u8],
@@ -215,7 +215,7 @@ impl Records {
         alike
     }
 
-    /// The lowest free place, or 13, or 7, or 8, in the order of R11 (N4, N12, N13).
+    /// The lowest free place, or 13, or 7, or 8, in the order of Q1 (N4, N12, N13).
     fn place_for_a_new_one(
         &self,
         table: &Table,

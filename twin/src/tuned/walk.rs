@@ -48,7 +48,7 @@ impl Leading {
     }
 }
 
-/// A header and where its TLV ends. Running out goes before all else at one TLV (R11).
+/// A header and where its TLV ends. Running out goes before all else at one TLV (Q1).
 #[inline(always)]
 fn whole_at(octets: &[u8], at: usize) -> Result<(u32, usize), Refusal> {
     let header = header_at(octets, at).ok_or(RUNS_OUT)?;
@@ -126,7 +126,7 @@ pub fn stops(found: u32) -> bool {
     found < header(DESCRIPTION, 0) || found.wrapping_sub(header(ORGANIZATION, 0)) < 4
 }
 
-/// What a walk that stops here answers: where the LLDPDU ends, or 5, or 6 (R11).
+/// What a walk that stops here answers: where the LLDPDU ends, or 5, or 6 (Q1).
 #[inline(always)]
 pub fn stop(octets: &[u8], found: u32, end: usize) -> Result<usize, Refusal> {
     if end > octets.len() {

@@ -178,14 +178,14 @@ impl Watch {
         self.table.who_sees(&self.buffer, address, from)
     }
 
-    /// Calls that answer with a refusal leave everything as it was (R12).
+    /// Calls that answer with a refusal leave everything as it was (Q2).
     pub fn refuses(&mut self, due: Refusal, call: impl Fn(&mut Watch) -> Option<Refusal>) {
         let before = self.clone();
         assert_eq!(call(self), Some(due));
         assert_eq!(*self, before);
     }
 
-    /// All calls but Start refuse with 1, whatever the port, the frame and the start are (R11).
+    /// All calls but Start refuse with 1, whatever the port, the frame and the start are (Q1).
     pub fn is_unfit(&mut self) {
         for port in [0, LAST_PORT, PORTS, usize::MAX] {
             self.refuses(1, |watch| watch.frame(port, &neighbour(1)).err());

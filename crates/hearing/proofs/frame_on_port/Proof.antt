@@ -15,7 +15,7 @@ is-fit-requires c κs = search needs
 cast-hear-frame : tie.Need-cast-hear-frame
 cast-hear-frame c = search needs
 
--- 1 is judged before 2 (R11): behind the first test the table is fit
+-- 1 is judged before 2 (Q1): behind the first test the table is fit
 is-fit-here : (c : tie.Then1) → fit (state (c .before .before .before .before .before .args .t) (c .before .before .before .before .before .args .buffer .now)) ≡ true
 is-fit-here c = let yes : c .before .is-fit .result ≡ true = c .if1 .taken in sym (c .before .is-fit .ensures) ∙ yes
 

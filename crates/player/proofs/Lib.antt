@@ -1,0 +1,3 @@
+-- The laws of reading a file in pieces: nothing read, one read more, and the end.
+-- That a file may be cut anywhere is a law of replay.
+pub mod ReadingLaws
