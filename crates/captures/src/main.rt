@@ -16,9 +16,8 @@ use play::Played;
 use play::play;
 use replay::Replayed;
 use table::OCTETS;
-use table::PLACES;
-use table::Sender;
 use table::Table;
+use table::empty_table;
 use table::start;
 use text::Part;
 use text::text_of;
@@ -43,15 +42,6 @@ fn table_buffer() -> [u8; OCTETS] {
 
 fn record_store() -> [u8; STORE] {
     [0; STORE]
-}
-
-fn empty() -> Table {
-    Table {
-        port: [0; PLACES],
-        seconds: [0; PLACES],
-        length: [0; PLACES],
-        sender: [Sender { octets: [0; 6] }; PLACES],
-    }
 }
 
 fn say_line(case: usize, size: usize, form: usize, n: usize, digest: u32) {
@@ -102,7 +92,7 @@ fn run(
 
 // All cases in pieces of one size, from a newly started table on.
 fn run_all(file: &[u8], size: usize, buffer: &mut [u8], store: &mut [u8]) {
-    let mut t = start(empty(), buffer).table;
+    let mut t = start(empty_table(), buffer).table;
     let mut at = 0;
     for case in 1..CASES {
         if at >= file.len() {

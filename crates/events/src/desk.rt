@@ -14,15 +14,6 @@ use whole::fill;
 // The octets of a place (N1).
 const PLACE: usize = OCTETS / PLACES;
 
-pub(crate) fn empty() -> Table {
-    Table {
-        port: [0; PLACES],
-        seconds: [0; PLACES],
-        length: [0; PLACES],
-        sender: [Sender { octets: [0; 6] }; PLACES],
-    }
-}
-
 fn put(store: &mut [u8], at: usize, b: u8) {
     if at < store.len() {
         store[at] = b;

@@ -9,6 +9,7 @@ use reader::Part;
 use reader::text_of;
 use record::FILE;
 use table::OCTETS;
+use table::empty_table;
 
 // A proved loop has to end, so the records are counted; the file has fewer.
 const RECORDS: usize = 100000;
@@ -27,8 +28,8 @@ fn store() -> [u8; STORE] {
 
 // Kind 13 keeps the table beside its store, and kind 14 takes both back.
 fn run_all(file: &[u8], store: &mut [u8], kept: &mut [u8]) {
-    let mut t = desk::empty();
-    let mut k = desk::empty();
+    let mut t = empty_table();
+    let mut k = empty_table();
     let mut lent = OCTETS;
     let mut at = 0;
     for case in 1..RECORDS {

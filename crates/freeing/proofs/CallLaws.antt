@@ -1,7 +1,7 @@
 -- Laws of the calls that answer done or a refusal: the contract of each return, as the code has it.
 -- A test's value gives both the outcome and the refusal number, in the order of Q1.
 use Prim.Native.Nat.{ℕ, _≤_, _<_}
-use mathlib.Core.Path.{_≡_, refl, ap, _∙_}
+use mathlib.Core.Path.{_≡_, refl, ap, ap₂, _∙_}
 use mathlib.Core.List.{List}
 use mathlib.Core.Logic.{_≢_}
 use mathlib.Core.Bool.{true, false}
@@ -32,9 +32,9 @@ module _ (s : State) where
   unfolding started refusalAtStart
   start-refused l e = rw (ne-eqb _ _ l) (does-refuse e)
 
-  pub start-done : {b : List ℕ} → length (s .buf) ≡ octets → b ≡ replicate (length (s .buf)) 0 → Does (done (empty .table)) b (started s) (refusalAtStart s)
+  pub start-done : {t : Table} {b : List ℕ} → length (s .buf) ≡ octets → t ≡ empty .table → b ≡ replicate (length (s .buf)) 0 → Does (done t) b (started s) (refusalAtStart s)
   unfolding started refusalAtStart
-  start-done l e = rw (eq-eqb _ _ l) (does-done (ap (state (empty .table)) (e ∙ ap (λ (n : ℕ). replicate n 0) l)))
+  start-done l et e = rw (eq-eqb _ _ l) (does-done (ap₂ state et (e ∙ ap (λ (n : ℕ). replicate n 0) l)))
 
   module _ (n : ℕ) where
     pub passed-unfit : {o : Outcome} → fit s ≡ false → o ≡ refusedOutcome (s .table) 1 → Does o (s .buf) (passed n s) (refusalWhenUnfit s)

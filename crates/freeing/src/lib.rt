@@ -1,7 +1,7 @@
 // The calls that take records away: Start (N6), seconds passed (N8), link lost (N9). They answer done, or a refusal.
 // Start judges the buffer's length alone: the table that is handed in need not be fit.
 ghost use mathlib.Core.Path.{_≡_};
-ghost use Rattle.place.specs.State.{state};
+ghost use Rattle.place.specs.State.{state, empty};
 ghost use Rattle.freeing.specs.Calls.{refusedOutcome, Does, started, refusalAtStart};
 
 mod change;
@@ -35,6 +35,18 @@ pub(crate) fn refuse(t: Table, n: u8) -> Outcome
     }
 }
 
+// A table without records; with a buffer of zeros it is what Start makes.
+pub fn empty_table() -> Table
+    ensures { λ r. ⌜ r ≡ empty .table ⌝ }
+{
+    Table {
+        port: [0; PLACES],
+        seconds: [0; PLACES],
+        length: [0; PLACES],
+        sender: [Sender { octets: [0; 6] }; PLACES],
+    }
+}
+
 pub fn start(t: Table, buffer: &mut [u8]) -> Outcome
     ensures { λ r. ⌜ Does r (now (buffer .exit)) (started (state t (now (buffer .entry)))) (refusalAtStart (state t (now (buffer .entry)))) ⌝ }
 {
@@ -43,12 +55,7 @@ pub fn start(t: Table, buffer: &mut [u8]) -> Outcome
     }
     clear(buffer);
     Outcome {
-        table: Table {
-            port: [0; PLACES],
-            seconds: [0; PLACES],
-            length: [0; PLACES],
-            sender: [Sender { octets: [0; 6] }; PLACES],
-        },
+        table: empty_table(),
         answer: Answer::Done,
     }
 }

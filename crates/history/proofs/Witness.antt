@@ -44,7 +44,7 @@ loses {s} {h} c ran p = go (ltb p ports) refl
 
 pub called-ran : {s : State} {h : History} → Called s h → Ran s h
 called-ran (begun s l) =
-    let post = start-done s l refl in
+    let post = start-done s l refl refl in
     ends (ap stateAfter (post .exact))
     (ran-start ([], tt) (s .table, (lent 0 (s .buf), tt)) (done (empty .table)) (s .table, (lent 0 (replicate (length (s .buf)) 0), tt)) l post)
 called-ran (frame {s} {h} c p f) =

@@ -10,9 +10,7 @@ use progress::Progress;
 use progress::nothing_read;
 use show::show;
 use table::OCTETS;
-use table::PLACES;
-use table::Sender;
-use table::Table;
+use table::empty_table;
 use table::start;
 use whole::same;
 
@@ -22,15 +20,6 @@ const FAILURES: i32 = 3;
 // The octets of a table's buffer. They are a call's result so that no proof has to count them.
 fn table_buffer() -> [u8; OCTETS] {
     [0; OCTETS]
-}
-
-fn empty() -> Table {
-    Table {
-        port: [0; PLACES],
-        seconds: [0; PLACES],
-        length: [0; PLACES],
-        sender: [Sender { octets: [0; 6] }; PLACES],
-    }
 }
 
 fn number_at(i: usize) -> usize {
@@ -54,7 +43,7 @@ fn fail(what: &[u8], how: &[u8]) {
 // The open file, from its first octet to the last line.
 fn run(fd: i32, name: &[u8]) {
     let mut buffer = table_buffer();
-    let t = start(empty(), &mut buffer).table;
+    let t = start(empty_table(), &mut buffer).table;
     let p = play(
         fd,
         t,

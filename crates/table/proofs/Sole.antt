@@ -5,6 +5,8 @@ use mathlib.Core.Path.{sym, ap, _∙_}
 use Rattle.tally.proofs.Sole.{Sole, SoleAt}
 use Rattle.freeing.specs.Calls.{After}
 use Rattle.hearing.specs.Frame.{Told}
+use Rattle.freeing.proofs.empty_table.Kinds as empty-table-kinds
+use Rattle.freeing.proofs.empty_table.Reads as empty-table
 use Rattle.freeing.proofs.start.Kinds as start-kinds
 use Rattle.freeing.proofs.start.Reads as start
 use Rattle.hearing.proofs.frame_on_port.Kinds as frame-kinds
@@ -17,6 +19,9 @@ use Rattle.questions.proofs.how_many.Kinds as many-kinds
 use Rattle.questions.proofs.how_many.Reads as many
 use Rattle.questions.proofs.who_sees.Kinds as sees-kinds
 use Rattle.questions.proofs.who_sees.Reads as sees
+
+pub empty-table-sole : Sole 0 empty-table-kinds.ps empty-table-kinds.r empty-table.Post
+empty-table-sole κs a r q x y e f = e ∙ sym f
 
 pub start-sole : Sole 1 start-kinds.ps start-kinds.r start.Post
 start-sole κs a r q x y e f = ap (λ (w : After). w .outcome) (e .exact ∙ sym (f .exact))

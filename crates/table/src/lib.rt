@@ -3,6 +3,7 @@
 pub use fitness::is_fit;
 pub use freeing::Answer;
 pub use freeing::Outcome;
+pub use freeing::empty_table;
 pub use freeing::link_lost;
 pub use freeing::seconds_passed;
 pub use freeing::start;

@@ -13,8 +13,8 @@ Inv-loop file size buffer₀ store₀ t₀ at₀ case₀ buffer store t at case 
 abbrev μ-loop : tie.MeasureT-loop
 μ-loop file size buffer₀ store₀ t₀ at₀ case₀ buffer store t at case = 100000 - case
 
-empty-requires : tie.Need-empty-requires Inv-loop μ-loop
-empty-requires c κs = search needs
+empty-table-requires : tie.Need-empty-table-requires Inv-loop μ-loop
+empty-table-requires c κs = search needs
 
 start-requires : tie.Need-start-requires Inv-loop μ-loop
 start-requires c κs = search needs
@@ -70,7 +70,7 @@ run-all-spec =
     (tie.spec
     Inv-loop
     μ-loop
-    empty-requires
+    empty-table-requires
     start-requires
     loop-holds
     same-length

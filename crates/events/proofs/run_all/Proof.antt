@@ -14,11 +14,11 @@ Inv-loop file store₀ kept₀ t₀ k₀ lent₀ at₀ case₀ store kept t k le
 abbrev μ-loop : tie.MeasureT-loop
 μ-loop file store₀ kept₀ t₀ k₀ lent₀ at₀ case₀ store kept t k lent at case = 100000 - case
 
-empty-requires : tie.Need-empty-requires Inv-loop μ-loop
-empty-requires c κs = search needs
+empty-table-requires : tie.Need-empty-table-requires Inv-loop μ-loop
+empty-table-requires c κs = search needs
 
-empty-requires-2 : tie.Need-empty-requires-2 Inv-loop μ-loop
-empty-requires-2 c κs = search needs
+empty-table-requires-2 : tie.Need-empty-table-requires-2 Inv-loop μ-loop
+empty-table-requires-2 c κs = search needs
 
 loop-holds : tie.Need-loop-holds Inv-loop μ-loop
 loop-holds c = search needs
@@ -83,8 +83,8 @@ run-all-spec =
     (tie.spec
     Inv-loop
     μ-loop
-    empty-requires
-    empty-requires-2
+    empty-table-requires
+    empty-table-requires-2
     loop-holds
     same-length
     same-length-2

@@ -18,14 +18,18 @@ returns c =
 clear-requires : tie.Need-clear-requires
 clear-requires c κs = search needs
 
+empty-table-requires : tie.Need-empty-table-requires
+empty-table-requires c κs = search needs
+
 same-length : tie.Need-same-length
 same-length c = search needs
 
 returns-2 : tie.Need-returns-2
 returns-2 c =
-    let a = c .before .before .before .before .before .before .args in
+    let k = c .before .before .before in
+    let a = k .before .before .before .before .args in
     let s = state (a .t) (a .buffer .now) in
-    start-done s (search needs) (c .before .before .clear .ensures)
+    start-done s (search needs) (c .empty-table .ensures) (k .clear .ensures)
 
 pub start-spec : {M : Type 1} → statement M
-start-spec = tie.close (tie.spec refuse-requires returns clear-requires same-length returns-2)
+start-spec = tie.close (tie.spec refuse-requires returns clear-requires empty-table-requires same-length returns-2)
