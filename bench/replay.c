@@ -1,5 +1,6 @@
 /* Makes large captures for bench/replay, and runs a program for its time and its memory.
- * usage: replay make KIND MEGABYTES FILE, where KIND is announcements or traffic; replay run PROGRAM WORD.. */
+ * usage: replay make KIND MEGABYTES FILE, where KIND is announcements (frame A of six neighbours in turn, 51 octets each) or traffic (frames of
+ * another protocol, 1,514 octets each, with an announcement before every 99 of them); replay run PROGRAM WORD.. */
 #define _GNU_SOURCE
 #include <fcntl.h>
 #include <stdint.h>
@@ -50,6 +51,10 @@ static int make(const char *kind, const char *megabytes, const char *name)
 {
     uint8_t frame[LONGEST_FRAME];
     int alone = strcmp(kind, "announcements") == 0;
+    if (!alone && strcmp(kind, "traffic") != 0) {
+        fprintf(stderr, "there is no kind %s\n", kind);
+        return 2;
+    }
     uint64_t due = strtoull(megabytes, NULL, 10) * 1000000, octets = 24;
     FILE *file = fopen(name, "wb");
     if (file == NULL) {
@@ -71,7 +76,12 @@ static int make(const char *kind, const char *megabytes, const char *name)
         fwrite(frame, 1, n, file);
         octets += 16 + n;
     }
-    return fclose(file) == 0 ? 0 : 1;
+    int failed = ferror(file);
+    if (fclose(file) != 0 || failed) {
+        fprintf(stderr, "%s could not be written\n", name);
+        return 1;
+    }
+    return 0;
 }
 
 /* Prints the seconds from start to end and the most memory that was in use, in KiB. What the program prints is dropped. */

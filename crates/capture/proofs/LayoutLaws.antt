@@ -24,7 +24,7 @@ pub word-is : (low : Bool) (l : List ℕ) (i : ℕ) {a b c d r : ℕ} → a ≡ 
 unfolding word
 word-is low l i ea eb ec ed e = e ∙ (λ j. ordered low (ea j) (eb j) (ec j) (ed j))
 
-pub word-take : (low : Bool) (n : ℕ) (l : List ℕ) (i : ℕ) → i + 4 ≤ n → word low (take n l) i ≡ word low l i
+word-take : (low : Bool) (n : ℕ) (l : List ℕ) (i : ℕ) → i + 4 ≤ n → word low (take n l) i ≡ word low l i
 unfolding word
 word-take low n l i h = λ j. ordered low (at i (omega arith) j) (at (i + 1) (omega arith) j) (at (i + 2) (omega arith) j) (at (i + 3) (omega arith) j)
   where
@@ -35,7 +35,7 @@ word-take low n l i h = λ j. ordered low (at i (omega arith) j) (at (i + 1) (om
 pub word-front : (low : Bool) (n : ℕ) (l k : List ℕ) (i : ℕ) → i + 4 ≤ n → take n l ≡ take n k → word low l i ≡ word low k i
 word-front low n l k i h e = sym (word-take low n l i h) ∙ ap (λ (x : List ℕ). word low x i) e ∙ word-take low n k i h
 
-pub opens-front : (low : Bool) (l k : List ℕ) → take fileHeader l ≡ take fileHeader k → opens low l ≡ opens low k
+opens-front : (low : Bool) (l k : List ℕ) → take fileHeader l ≡ take fileHeader k → opens low l ≡ opens low k
 unfolding opens
 opens-front low l k e =
     ap₂ (λ (a b : ℕ). both (eqb a magic) (eqb b ethernet)) (word-front low fileHeader l k 0 (omega arith) e) (word-front low fileHeader l k 20 (omega arith) e)

@@ -23,9 +23,8 @@ word low l i = ordered low (getD l i 0) (getD l (i + 1) 0) (getD l (i + 2) 0) (g
 abbrev pub fileHeader : ℕ
 fileHeader = 24
 
--- A1B2C3D4
 abbrev pub magic : ℕ
-magic = 2712847316
+magic = 0xA1B2_C3D4
 
 abbrev pub ethernet : ℕ
 ethernet = 1

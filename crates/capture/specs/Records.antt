@@ -23,7 +23,8 @@ pub data Records : Type 0 where
 abbrev pub frontOf : Bool → List ℕ → Captured
 frontOf low l = record { stamp = stamp low l; original = original low l; octets = take (captured low l) (drop recordHeader l) }
 
--- the records in l, behind k octets that belong to the record before
+-- the records in l, behind k octets that belong to the record before. Where one begins, x is the first of its octets, and 15 of its header follow;
+-- it is entered only where all of it is there, so that from k = 0 on the second line is not reached
 unfoldable pub recordsOf : Bool → List ℕ → ℕ → Records
 recordsOf low [] zero = over
 recordsOf low [] (suc k) = torn

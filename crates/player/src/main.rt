@@ -1,10 +1,12 @@
 // player: replays a capture into a new table and prints what the table then holds, or `refused ` and the number (J3).
-// Its arguments are the capture, the port, the limit in frames (any word that is no number: all) and, for progress, the word `progress`.
+// Its arguments are the capture (`-` is standard input), the port, the limit in frames (any word that is no number: all) and, for progress, the word `progress`.
 mod play;
 mod progress;
 mod show;
 
 use arguments::number_in;
+use libc::STDERR_FILENO;
+use libc::STDIN_FILENO;
 use play::play;
 use progress::Progress;
 use progress::nothing_read;
@@ -34,14 +36,22 @@ fn progress_at(i: usize) -> Progress {
     nothing_read(same(&word[..n], b"progress"))
 }
 
-// A line of what failed.
-fn fail(what: &[u8], how: &[u8]) {
-    io::write_all(FAILURES, what);
-    io::write_all(FAILURES, how);
+// A line of what failed; on standard error where nobody looks for it.
+fn fail(line: &[u8]) {
+    if !io::write_all(FAILURES, line) {
+        io::write_all(STDERR_FILENO, line);
+    }
+}
+
+fn open(name: &[u8]) -> i32 {
+    if same(name, b"-") {
+        return STDIN_FILENO;
+    }
+    os::open_read(name)
 }
 
 // The open file, from its first octet to the last line.
-fn run(fd: i32, name: &[u8]) {
+fn run(fd: i32) {
     let mut buffer = table_buffer();
     let t = start(empty_table(), &mut buffer).table;
     let p = play(
@@ -53,24 +63,24 @@ fn run(fd: i32, name: &[u8]) {
         progress_at(4),
     );
     if !p.is_read {
-        fail(name, b" cannot be read\n");
+        fail(b"the capture cannot be read\n");
         return;
     }
     let answer = p.answer;
     let table = p.table;
     if !show(answer, table, &buffer) {
-        fail(b"standard output", b" cannot be written\n");
+        fail(b"standard output cannot be written\n");
     }
 }
 
 fn main() {
     let mut word = io::buffer();
     let n = os::arg(1, &mut word);
-    let fd = os::open_read(&word[..n]);
+    let fd = open(&word[..n]);
     if fd < 0 {
-        fail(&word[..n], b" cannot be opened\n");
+        fail(b"the capture cannot be opened\n");
         return;
     }
-    run(fd, &word[..n]);
+    run(fd);
     libc::close(fd);
 }

@@ -68,10 +68,10 @@ fn read_some(fd: i32, s: Step, buffer: &mut [u8], room: &mut [u8]) -> Step
     let n = io::count(got, &piece);
     let fed = feed(place, table, buffer, room, &piece[..n]);
     let next = fed.replay;
-    let left = fed.table;
+    let kept = fed.table;
     Step {
         replay: next,
-        table: left,
+        table: kept,
         progress: read_more(progress, n),
         course: on_if(wants_more(next)),
     }
@@ -134,7 +134,8 @@ fn play_in(
     }
 }
 
-// The whole file: there are octets, those that were read, of which the rules give this answer and this table (C2 to C9).
+// The whole file. There are octets of which the rules give this answer and this table (C2 to C9); that they are those of the file,
+// all of them and in order, no contract can say, since none says what a read gives. It is tested.
 pub(crate) fn play(
     fd: i32,
     t: Table,

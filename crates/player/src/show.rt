@@ -11,7 +11,8 @@ use table::Table;
 use text::Part;
 use text::text_of;
 
-// More than the longest line, whose port ID has 255 octets (L4).
+// More than the longest line, which has 865 octets: two for the port, five for the seconds, 70 for a local chassis (L3), one for a subtype and
+// 764 for a port ID of 255 octets (L4), 17 for a sender, five spaces and its end.
 const LINE: usize = 1024;
 
 // A call of its own, so that the number of octets is known.
@@ -37,6 +38,7 @@ fn put_place(line: &mut [u8], port: u8, seconds: u16, lldpdu: &[u8], sender: [u8
     put_sender(line, end, sender)
 }
 
+// Past the last place there is nothing to show.
 fn show_place(t: Table, buffer: &[u8], i: usize) -> bool {
     if i >= PLACES {
         return true;

@@ -80,7 +80,7 @@ step-live : (m : Moment) (x : ℕ) → 0 < m .replay .want → step m x ≡ sett
 unfolding step
 step-live m x h = rw (ne-eqb (m .replay .want) 0 (λ e. omega arith))
 
-pub took-want : (m : Moment) (c : List ℕ) → took m c .replay .want ≡ m .replay .want - length c
+took-want : (m : Moment) (c : List ℕ) → took m c .replay .want ≡ m .replay .want - length c
 unfolding took
 took-want m c = refl
 

@@ -9,8 +9,8 @@ use native.Mathlib.Omega.{arith}
 use borrow.Author.Tests.{eq-eqb, ne-eqb, eqb-true, eqb-false, lt-ltb, ltb-true, ltb-false, le-leb, leb-true}
 use lib.ListN.{length, set, length-set}
 use lib.Dec.{leb, ltb, eqb}
-use Rattle.tally.specs.Tests.{pick}
-use Rattle.output.specs.Output.{outputAt, more}
+use Rattle.tally.specs.Tests.{pick, both}
+use Rattle.output.specs.Output.{outputAt}
 use Rattle.capture.specs.Layout.{fileHeader, layoutOf, recordHeader}
 use Rattle.capture.specs.declared.Layout.{Layout}
 use Rattle.capture.specs.declared.Layout.the-variants.{HighFirst, LowFirst, Foreign}
@@ -26,7 +26,7 @@ use Rattle.records.specs.Place.{gap, placeAt, refusedWith, next, opened, fateOf
 use Rattle.records.specs.Turns.{turn, met, onAnswer, closed, headedBy, turned, settled}
 use Rattle.records.proofs.PlaceLaws.{next-stops, next-goes}
 use Rattle.replay.specs.Place.{roomOctets, opening, beginning, keeps}
-use Rattle.replay.specs.Sound.{isFirst, inFile, inHeader, inRecord, atEnd, soundAt, sound}
+use Rattle.replay.specs.Sound.{isFirst, inFile, inHeader, inRecord, isStopped, soundAt, sound}
 use Rattle.replay.specs.Feeding.{Moment, moment, heldTo, took, settledIn, step, fed}
 use Rattle.replay.specs.Contracts.{feeding}
 use Rattle.records.specs.declared.Fate.{Fate}
@@ -291,7 +291,7 @@ module _ (r : Replay) (room : List ℕ) (s : State) (x : ℕ) (l : length room �
   octet-ready Heading g e = heading-ready g e
   octet-ready (Body t fate) g e = body-ready t fate g e
   octet-ready Stopped g e =
-      let a = and-parts (atEnd r) (inFile r) (sound-at r Stopped g ∙ e) in
+      let a = and-parts (isStopped r) (inFile r) (sound-at r Stopped g ∙ e) in
       let b = and-parts (eqb (r .held) 0 && eqb (r .want) 0 && eqb (r .left) 0) (isFirst (r .before) || not (eqb (r .limit) 0)) (a .0) in
       let c = and-parts (eqb (r .held) 0 && eqb (r .want) 0) (eqb (r .left) 0) (b .0) in
       absurd (w (eqb-true (r .want) 0 (and-parts (eqb (r .held) 0) (eqb (r .want) 0) (c .0) .1)))
@@ -318,7 +318,7 @@ fed-ready m (x ∷ l) k = fed-ready (step m x) l (step-ready m x k)
 
 -- Before the file
 
-pub beginning-sound : (s : State) (port limit : ℕ) → sound (beginning s port limit) ≡ true
+beginning-sound : (s : State) (port limit : ℕ) → sound (beginning s port limit) ≡ true
 unfolding beginning
 beginning-sound s port limit = go (fit s) (ltb port ports) refl
   where
@@ -346,3 +346,19 @@ fed-more s port limit room l file piece =
     let m = moment (beginning s port limit) room s in
     let k = made-ready s port limit room l file in
     sym (feeds-sound (fed m file) piece (k .0) (k .1)) ∙ sym (fed-append m file piece)
+
+-- whatever is handed in, the place that `feed` hands back is sound
+pub feeding-sound : (m : Moment) (piece : List ℕ) → sound (feeding m piece .replay) ≡ true
+unfolding feeding
+feeding-sound m piece = go (eqb (length (m .room)) roomOctets) refl (sound (m .replay)) refl
+  where
+    go : (a : Bool) → eqb (length (m .room)) roomOctets ≡ a → (b : Bool) → sound (m .replay) ≡ b
+        → sound (pick (both a b) (fed m piece) (moment (refusedWith 1) (m .room) (m .state)) .replay) ≡ true
+    go true e true d = fed-ready m piece (record { long = eqb-true (length (m .room)) roomOctets e; is = d }) .is
+    go true e false d = refused-sound 1 refl
+    go false e b d = refused-sound 1 refl
+
+-- a table that is found unfit at a call ends the replay with 1, and stays as it is
+pub unfit-ends : (f : Fate) (t : ℕ) (r : Replay) (room : List ℕ) (s : State) → fit s ≡ false → closed f t r room s ≡ turn (refusedWith 1) s
+unfolding closed passed
+unfit-ends f t r room s e = rw e refl

@@ -38,8 +38,8 @@ inRecord f r =
     (not (eqb (r .want) 0) && eqb (r .held) 0)
 
 -- with a limit of 0 no record was looked at, with any other one was
-abbrev pub atEnd : Replay → Bool
-atEnd r = eqb (r .held) 0 && eqb (r .want) 0 && eqb (r .left) 0 && (isFirst (r .before) || not (eqb (r .limit) 0))
+abbrev pub isStopped : Replay → Bool
+isStopped r = eqb (r .held) 0 && eqb (r .want) 0 && eqb (r .left) 0 && (isFirst (r .before) || not (eqb (r .limit) 0))
 
 -- a refusal is its number alone; 12 is told at the end of a file, and no place has it
 abbrev pub isRefused : ℕ → Replay → Bool
@@ -50,7 +50,7 @@ abbrev pub soundAt : Stage → Replay → Bool
 soundAt Opening r = inOpening r && inFile r
 soundAt Heading r = inHeader recordHeader r && not (eqb (r .left) 0) && inFile r
 soundAt (Body stamp fate) r = inRecord fate r && not (eqb (r .left) 0) && inFile r
-soundAt Stopped r = atEnd r && inFile r
+soundAt Stopped r = isStopped r && inFile r
 soundAt (Refused n) r = isRefused n r
 
 unfoldable pub sound : Replay → Bool

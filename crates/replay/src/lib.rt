@@ -67,7 +67,7 @@ pub fn begin(t: Table, buffer: &[u8], port: usize, limit: usize) -> Replay
     refused_with(UNFIT)
 }
 
-// Whether octets behind those fed so far would be looked at.
+// Whether a replay that stands here would look at more of the file.
 pub fn wants_more(r: Replay) -> bool
     ensures { λ q. ⌜ q ≡ not (eqb (r .want) 0) ⌝ }
 {

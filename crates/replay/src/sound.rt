@@ -1,7 +1,7 @@
 // Whether a place is one that a replay can have made, by its numbers (C10).
 // A caller may hand in any place; one that is not sound is refused with 1.
 ghost use mathlib.Core.Path.{_≡_};
-ghost use Rattle.replay.specs.Sound.{isFirst, inFile, inHeader, inOpening, inRecord, atEnd, isRefused, sound};
+ghost use Rattle.replay.specs.Sound.{isFirst, inFile, inHeader, inOpening, inRecord, isStopped, isRefused, sound};
 use crate::FILE_HEADER;
 use crate::ROOM;
 use fitness::NO_PORT;
@@ -58,8 +58,8 @@ fn is_in_record(f: Fate, r: Replay) -> bool
 }
 
 // Behind the last frame; with a limit of 0 no record was looked at.
-fn is_at_end(r: Replay) -> bool
-    ensures { λ q. ⌜ q ≡ atEnd r ⌝ }
+fn is_stopped(r: Replay) -> bool
+    ensures { λ q. ⌜ q ≡ isStopped r ⌝ }
 {
     let before = r.before;
     (r.held == 0) & (r.want == 0) & (r.left == 0) & (is_first(before) | (r.limit != 0))
@@ -87,7 +87,7 @@ pub(crate) fn is_sound(r: Replay) -> bool
         Stage::Opening => is_in_opening(r) & is_in_file(r),
         Stage::Heading => is_in_header(RECORD_HEADER as usize, r) & (r.left != 0) & is_in_file(r),
         Stage::Body(_, fate) => is_in_record(fate, r) & (r.left != 0) & is_in_file(r),
-        Stage::Stopped => is_at_end(r) & is_in_file(r),
+        Stage::Stopped => is_stopped(r) & is_in_file(r),
         Stage::Refused(n) => is_refused(n, r),
     }
 }

@@ -4,3 +4,4 @@ pub mod EventsLaws
 pub mod Runs
 pub mod Witness
 pub mod LimitLaws
+pub mod UnreadLaws

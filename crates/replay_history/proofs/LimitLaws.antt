@@ -1,5 +1,5 @@
--- The limit of a replay (C6): no more frames are handed over than it says, and nothing behind the last one is looked at.
--- And the refusals that there are (C8): a table that is fit is never refused with 1.
+-- The limit of a replay (C6): no more frames are handed over than it says. And the refusals that there are (C8).
+-- That nothing behind the last frame is looked at is UnreadLaws.antt.
 use Prim.Native.Nat.{ℕ, zero, suc, _+_, _≤_}
 use mathlib.Core.Path.{_≡_, refl, sym, ap, _∙_}
 use mathlib.Core.Logic.{_⊎_, inl, inr, _≢_}
@@ -18,9 +18,9 @@ use Rattle.place.specs.State.{State}
 use Rattle.fitness.specs.Fit.{fit}
 use Rattle.records.specs.Place.{gap}
 use Rattle.replay.specs.Calls.{pass, frame, Script, refusing, call, isSkipped, scriptOf, scriptIn, scriptOfFile, scriptFor, handedIn, after, replayed}
-use Rattle.replay.specs.Place.{roomOctets, beginning}
-use Rattle.replay.specs.Contracts.{Listed}
-use Rattle.replay.specs.Feeding.{moment, fed, finished}
+use Rattle.replay.specs.Place.{beginning}
+use Rattle.replay.specs.Contracts.{Stands, Listed}
+use Rattle.replay.specs.Feeding.{Moment, moment, fed, finished}
 use Rattle.records.specs.declared.Before.{Before}
 use Rattle.records.specs.declared.Before.the-variants.{Nothing, Stamp}
 use Rattle.replay.proofs.FeedingLaws.{fed-append, fed-still}
@@ -59,14 +59,15 @@ at-most s port limit file = go (fit s) (ltb port ports) (ltb (length file) fileH
     go true false c = omega arith
     go false b c = omega arith
 
--- "nothing behind the last frame (at 0, behind the file header) is looked at": where the front of a file leaves nothing due, the rest changes nothing
-pub rest-unread : (s : State) → Listed s → (port limit : ℕ) (room : List ℕ) → length room ≡ roomOctets → (front rest : List ℕ)
-    → fed (moment (beginning s port limit) room s) front .replay .want ≡ 0 → replayed s port limit (front ++ rest) ≡ replayed s port limit front
-rest-unread s z port limit room l front rest e =
-    let m = moment (beginning s port limit) room s in
-    sym (whole s z port limit room l (front ++ rest))
-    ∙ ap finished (fed-append m front rest ∙ fed-still (fed m front) rest e)
-    ∙ whole s z port limit room l front
+-- where the front of a file leaves nothing due, as `wants_more` tells, the rest changes nothing
+pub rest-unread : {s : State} {port limit : ℕ} {front : List ℕ} {m : Moment} → Listed s → Stands s port limit front m → m .replay .want ≡ 0 → (rest : List ℕ)
+    → replayed s port limit (front ++ rest) ≡ replayed s port limit front
+rest-unread {s} {port} {limit} {front} z c e rest =
+    let k = moment (beginning s port limit) (c .room) s in
+    let d : fed k front .replay .want ≡ 0 = ap (λ (x : Moment). x .replay .want) (sym (c .here)) ∙ e in
+    sym (whole s z port limit (c .room) (c .long) (front ++ rest))
+    ∙ ap finished (fed-append k front rest ∙ fed-still (fed k front) rest d)
+    ∙ whole s z port limit (c .room) (c .long) front
 
 -- a fit table is never refused with 1
 pub fit-not-refused-1 : (s : State) (port limit : ℕ) (file : List ℕ) → fit s ≡ true → scriptFor s port limit file .refusal ≢ 1

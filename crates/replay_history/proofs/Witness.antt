@@ -10,6 +10,7 @@ use Rattle.place.specs.State.{State}
 use Rattle.replay.specs.Place.{roomOctets, beginning}
 use Rattle.replay.specs.Feeding.{Moment, moment}
 use Rattle.replay.specs.Contracts.{feeding}
+use Rattle.replay.proofs.EndLaws.{feeds-exactly}
 use Rattle.replay_history.proofs.Runs.{Playing, begun, fed-on}
 
 -- octets that are lent, in block k: the table's buffer in 0, the record buffer in 1, a piece in 2
@@ -25,7 +26,7 @@ module _ (s : State) (port limit : ℕ) (room : List ℕ) (l : length room ≡ r
       (record { replay = n .replay; table = n .state .table })
       (m .replay, (m .state .table, (lent 0 (n .state .buf), (lent 1 (n .room), (lent 2 piece, tt)))))
       p
-      (record { exact = refl })
+      (feeds-exactly refl)
 
   -- the pieces of a file, the last one first
   abbrev joined : List (List ℕ) → List ℕ

@@ -5,6 +5,7 @@ use denote.Ref.{now}
 use Rattle.place.specs.State.{state}
 use Rattle.replay.specs.Feeding.{moment}
 use Rattle.replay.proofs.ContractLaws.{feeds-short, feeds-sound, feeds-unsound}
+use Rattle.replay.proofs.EndLaws.{feeds-exactly}
 use borrow.Author.Needs.{needs}
 use Rattle.replay.proofs.feed.Statement.{statement}
 use Rattle.replay.proofs.feed.Tie as tie
@@ -15,7 +16,7 @@ refused-with-requires c κs = search needs
 returns : tie.Need-returns
 returns c =
     let a = c .before .before .before .before .before .args in
-    record { exact = feeds-short (moment (a .r) (now (a .room)) (state (a .t) (now (a .buffer)))) (now (a .piece)) (c .refused-with .ensures) (c .before .if1 .taken) }
+    feeds-exactly (feeds-short (moment (a .r) (now (a .room)) (state (a .t) (now (a .buffer)))) (now (a .piece)) (c .refused-with .ensures) (c .before .if1 .taken))
 
 is-sound-requires : tie.Need-is-sound-requires
 is-sound-requires c κs = search needs
@@ -35,11 +36,7 @@ returns-2 c =
     let i = f .before .before .before .before in
     let h = i .before in
     let a = h .before .before .before .before .args in
-    record {
-      exact =
-          f .feed-parts .ensures
-          ∙ feeds-sound (moment (a .r) (now (a .room)) (state (a .t) (now (a .buffer)))) (now (a .piece)) (h .if1 .left) (sym (i .is-sound .ensures) ∙ f .before .before .before .if2 .taken);
-    }
+    feeds-exactly (f .feed-parts .ensures ∙ feeds-sound (moment (a .r) (now (a .room)) (state (a .t) (now (a .buffer)))) (now (a .piece)) (h .if1 .left) (sym (i .is-sound .ensures) ∙ f .before .before .before .if2 .taken))
 
 refused-with-requires-2 : tie.Need-refused-with-requires-2
 refused-with-requires-2 c κs = search needs
@@ -49,7 +46,7 @@ returns-3 c =
     let i = c .before .before in
     let h = i .before in
     let a = h .before .before .before .before .args in
-    record { exact = feeds-unsound (moment (a .r) (now (a .room)) (state (a .t) (now (a .buffer)))) (now (a .piece)) (c .refused-with2 .ensures) (h .if1 .left) (sym (i .is-sound .ensures) ∙ c .before .if2 .left) }
+    feeds-exactly (feeds-unsound (moment (a .r) (now (a .room)) (state (a .t) (now (a .buffer)))) (now (a .piece)) (c .refused-with2 .ensures) (h .if1 .left) (sym (i .is-sound .ensures) ∙ c .before .if2 .left))
 
 pub feed-spec : {M : Type 1} → statement M
 feed-spec =

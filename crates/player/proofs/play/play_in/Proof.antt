@@ -14,7 +14,7 @@ abbrev Inv-loop : tie.InvT-loop
 Inv-loop fd buffer₀ room₀ port limit s₀ turns₀ buffer room s turns =
     (length buffer ≡ length buffer₀)
     × ((length room ≡ length room₀)
-    × Read (state (s₀ .table) buffer₀) port limit room₀ (moment (s .replay) room (state (s .table) buffer)))
+    × Read (state (s₀ .table) buffer₀) port limit (moment (s .replay) room (state (s .table) buffer)))
 
 abbrev μ-loop : tie.MeasureT-loop
 μ-loop fd buffer₀ room₀ port limit s₀ turns₀ buffer room s turns = turns
@@ -27,8 +27,9 @@ loop-holds c = (
   refl,
   (
     refl,
-    read-none _ _ _ _
+    read-none _ _ _
         (record { ports-long = search needs; seconds-long = search needs; lengths-long = search needs; senders-long = search (needs, length-mapped) })
+        _
         (c .before .before .before .before .pre)
         (c .begin .ensures),
   ),
@@ -48,7 +49,7 @@ loop-again c =
     let called = c .before .before .before .before .before in
     let turn = called .before .before .before .before in (
       search (needs, called .read-some .kept, turn .loop .inv),
-      (search (needs, called .read-some .kept, turn .loop .inv), read-more _ _ _ _ (turn .loop .inv .1 .1) (called .read-some .ensures)),
+      (search (needs, called .read-some .kept, turn .loop .inv), read-more _ _ _ (turn .loop .inv .1 .1) (called .read-some .ensures)),
     )
 
 end-requires : tie.Need-end-requires Inv-loop μ-loop
@@ -69,7 +70,7 @@ same-length-2 c = search needs
 returns : tie.Need-returns Inv-loop μ-loop
 returns c =
     let turn = c .before .before .before .before .before .before .before in
-    read-end _ _ _ _ (turn .loop .inv .1 .1) (c .before .finish .ensures)
+    read-end _ _ _ (turn .loop .inv .1 .1) (c .before .finish .ensures)
 
 pub play-in-spec : {M : Type 1} → statement M
 play-in-spec =

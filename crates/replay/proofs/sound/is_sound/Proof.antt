@@ -40,8 +40,8 @@ is-in-file-requires-3 c κs = search needs
 enum-told-3 : tie.Need-enum-told-3
 enum-told-3 c = search needs
 
-is-at-end-requires : tie.Need-is-at-end-requires
-is-at-end-requires c κs = search needs
+is-stopped-requires : tie.Need-is-stopped-requires
+is-stopped-requires c κs = search needs
 
 is-in-file-requires-4 : tie.Need-is-in-file-requires-4
 is-in-file-requires-4 c κs = search needs
@@ -64,7 +64,7 @@ returns-3 c =
     rw (c .before .before .is-in-record .ensures, c .is-in-file3 .ensures) (sound-at (x .before .before .args .r) (Body _ _) (x .stage .given .1))
 
 returns-4 : tie.Need-returns-4
-returns-4 c = rw (c .before .is-at-end .ensures, c .is-in-file4 .ensures) (sound-at (c .before .before .before .before .args .r) Stopped (c .before .before .enum-told3 .given .1))
+returns-4 c = rw (c .before .is-stopped .ensures, c .is-in-file4 .ensures) (sound-at (c .before .before .before .before .args .r) Stopped (c .before .before .enum-told3 .given .1))
 
 returns-5 : tie.Need-returns-5
 returns-5 c =
@@ -86,7 +86,7 @@ is-sound-spec =
     is-in-record-requires
     is-in-file-requires-3
     enum-told-3
-    is-at-end-requires
+    is-stopped-requires
     is-in-file-requires-4
     enum-known-stage-2
     is-refused-requires
