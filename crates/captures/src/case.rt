@@ -1,5 +1,6 @@
 // A case of the file `captures`: whether its table goes on, port, limit, when the table is spoiled, length of the record buffer, length of the capture.
-// They have 1, 8, 8, 8, 2 and 4 octets, high octet first. As many octets as the last says follow; they are the capture.
+// They have 1, 8, 8, 8, 2 and 4 octets, high octet first; a table that is to be spoiled behind more octets than the capture has never is.
+// As many octets as the last says follow; they are the capture.
 use octets::octet;
 use octets::pair;
 use octets::value_of;

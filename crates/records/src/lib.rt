@@ -24,6 +24,9 @@ pub const RECORD_HEADER: u32 = 16;
 // The octets of the longest frame (F1).
 const LONGEST: u32 = 1514;
 
+// The most seconds that one call can pass (N8).
+const MOST_SECONDS: u32 = 65535;
+
 // A file that is no capture (R11).
 pub const NO_CAPTURE: u8 = 11;
 
@@ -92,9 +95,6 @@ pub fn refused_with(n: u8) -> Replay
         port: 0,
     }
 }
-
-// The most seconds that one call can pass (N8).
-const MOST_SECONDS: u32 = 65535;
 
 // The seconds that pass before a record with this stamp (C4).
 fn gap_of(before: Before, stamp: u32) -> u16
