@@ -1,5 +1,5 @@
 -- THE THEOREM of the replay (C9): fed octet by octet, a file leads to the answer and the table that the definition gives for the whole file.
--- From record to record by induction; a record is fed at once, header and body (FillLaws), and a cut file ends inside one.
+-- From record to record by induction; a record is fed at once, header and body (DueLaws), and a cut file ends inside one.
 use Prim.Native.Nat.{ℕ, zero, suc, _+_, _-_, _<_, _≤_}
 use mathlib.Core.Path.{_≡_, refl, sym, ap, ap₂, _∙_}
 use mathlib.Core.List.{List, _++_}
@@ -39,7 +39,7 @@ use Rattle.records.specs.declared.Replay.{Replay}
 use Rattle.replay.specs.declared.Replayed.the-variants.{Handed, Refused}
 use Rattle.replay.proofs.FeedingLaws.{fed-still, positive}
 use Rattle.replay.proofs.TableLaws.{kept-of, passed-done, passed-kept, heard-kept, long-unheard}
-use Rattle.replay.proofs.FillLaws.{fronted, fronted-long, fronted-take, turnedIn, inside, fill-kept, fill-passed, part-kept, part-passed}
+use Rattle.replay.proofs.DueLaws.{fronted, fronted-long, fronted-take, turnedIn, inside, fill-kept, fill-passed, part-kept, part-passed}
 
 -- a place and a table, beside some record buffer
 unfoldable beside : List ℕ → Turn → Moment
