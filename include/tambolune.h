@@ -1,4 +1,5 @@
-/* tambolune.h: the calls of Tambolune for C11 and C++: frames are read and written, a table of neighbours is kept.
+/* tambolune.h: the calls of Tambolune for C11 and C++: frames are read and written, a table of neighbours is kept, two
+ * looks at it are compared.
  * docs/RULES.md says what each call does (X1 to X7); the numbers of its rules stand in brackets here.
  *
  * The file has two layers. First the calls of the library, which take slices of octets. Behind them stand inline
@@ -10,10 +11,10 @@
  * - Nothing is allocated, and the library keeps nothing between calls. Calls on different tables may run on
  *   different threads. One table is used by one thread at a time.
  * - A slice is a pointer and a number of octets. That many octets must be there.
- * - Slices that are lent in one call must not overlap, not even a const one with one that is written. So a frame for
- *   a table does not lie in that table, and an output does not lie in its text.
+ * - Slices that are lent in one call must not overlap, const ones neither (X7). So a frame for a table does not lie in
+ *   that table, an output does not lie in its text, and tambolune_compare is not lent one table twice.
  * - No pointer is NULL. The calls of the library forbid it even with 0 octets. The inline functions allow it with 0
- *   octets, for a frame, an LLDPDU, a text and an output.
+ *   octets, for a frame, an LLDPDU, a text and an output, and with room for 0 entries.
  */
 #ifndef TAMBOLUNE_H
 #define TAMBOLUNE_H
@@ -37,12 +38,16 @@ extern "C" {
 #define TAMBOLUNE_SENDERS_OCTETS (TAMBOLUNE_ADDRESS_OCTETS * TAMBOLUNE_PLACES)
 #define TAMBOLUNE_HEADER_OCTETS 14 /* of a frame, in front of its LLDPDU (F1) */
 #define TAMBOLUNE_DESCRIPTION_OCTETS 85
-#define TAMBOLUNE_JUDGED_OCTETS 15 /* the answer of judge */
-#define TAMBOLUNE_VERDICT_OCTETS 3 /* of read and of read LLDPDU */
-#define TAMBOLUNE_WRITTEN_OCTETS 2 /* of write */
-#define TAMBOLUNE_REPLY_OCTETS 1   /* of frame on a port */
-#define TAMBOLUNE_COUNT_OCTETS 1   /* of how many */
-#define TAMBOLUNE_SIGHT_OCTETS 13  /* of who sees */
+#define TAMBOLUNE_JUDGED_OCTETS 15  /* the answer of judge */
+#define TAMBOLUNE_VERDICT_OCTETS 3  /* of read and of read LLDPDU */
+#define TAMBOLUNE_WRITTEN_OCTETS 2  /* of write */
+#define TAMBOLUNE_REPLY_OCTETS 1    /* of frame on a port */
+#define TAMBOLUNE_COUNT_OCTETS 1    /* of how many */
+#define TAMBOLUNE_SIGHT_OCTETS 13   /* of who sees */
+#define TAMBOLUNE_COMPARED_OCTETS 2 /* of compare */
+#define TAMBOLUNE_ENTRY_OCTETS 2    /* an entry in the list of compare (D3) */
+#define TAMBOLUNE_ENTRIES (2 * TAMBOLUNE_PLACES) /* the most there can be: one for each place of both tables (D4) */
+#define TAMBOLUNE_LIST_OCTETS (TAMBOLUNE_ENTRY_OCTETS * TAMBOLUNE_ENTRIES)
 
 /* The same sizes, as the library has them. */
 size_t tambolune_size_ports(void);
@@ -59,22 +64,25 @@ size_t tambolune_size_written(void);
 size_t tambolune_size_reply(void);
 size_t tambolune_size_count(void);
 size_t tambolune_size_sight(void);
+size_t tambolune_size_compared(void);
+size_t tambolune_size_entry(void);
 size_t tambolune_size_header(void);
 
-/* Refusal numbers (R1 to R10, R13). Where several are due, Q1 says which is given. */
+/* Refusal numbers (R1 to R10, R13, R14). Where several are due, Q1 says which is given. */
 enum tambolune_refusal {
     TAMBOLUNE_NOT_REFUSED = 0,
-    TAMBOLUNE_REFUSED_UNFIT = 1,        /* the table is not fit (N5), or a slice does not have its length (X2) */
-    TAMBOLUNE_REFUSED_NO_PORT = 2,      /* there is no such port */
-    TAMBOLUNE_REFUSED_HEADER = 3,       /* length, destination, type or source of the frame (F1 to F4) */
-    TAMBOLUNE_REFUSED_FIRST_TLVS = 4,   /* one of the first three TLVs: chassis ID, port ID, seconds (L3 to L6) */
-    TAMBOLUNE_REFUSED_CUT_SHORT = 5,    /* a TLV runs past the octets, or they end before an End */
-    TAMBOLUNE_REFUSED_LATER_TLV = 6,    /* a later TLV that may not stand there (L9, L10) */
-    TAMBOLUNE_REFUSED_PORT_FULL = 7,    /* a new neighbour, and the port holds six */
-    TAMBOLUNE_REFUSED_COMMON_TAKEN = 8, /* a new neighbour, the port holds two to five, the common places are taken */
-    TAMBOLUNE_REFUSED_DESCRIPTION = 9,  /* the description breaks a rule, or needs more than 1,500 octets */
-    TAMBOLUNE_REFUSED_OUTPUT = 10,      /* the output is shorter than the LLDPDU */
-    TAMBOLUNE_REFUSED_LOUD_CHASSIS = 13 /* a new neighbour, and its chassis holds three on the port (N13) */
+    TAMBOLUNE_REFUSED_UNFIT = 1,         /* a table is not fit (N5), or a slice does not have its length (X2) */
+    TAMBOLUNE_REFUSED_NO_PORT = 2,       /* there is no such port */
+    TAMBOLUNE_REFUSED_HEADER = 3,        /* length, destination, type or source of the frame (F1 to F4) */
+    TAMBOLUNE_REFUSED_FIRST_TLVS = 4,    /* one of the first three TLVs: chassis ID, port ID, seconds (L3 to L6) */
+    TAMBOLUNE_REFUSED_CUT_SHORT = 5,     /* a TLV runs past the octets, or they end before an End */
+    TAMBOLUNE_REFUSED_LATER_TLV = 6,     /* a later TLV that may not stand there (L9, L10) */
+    TAMBOLUNE_REFUSED_PORT_FULL = 7,     /* a new neighbour, and the port holds six */
+    TAMBOLUNE_REFUSED_COMMON_TAKEN = 8,  /* a new neighbour, the port holds two to five, the common places are taken */
+    TAMBOLUNE_REFUSED_DESCRIPTION = 9,   /* the description breaks a rule, or needs more than 1,500 octets */
+    TAMBOLUNE_REFUSED_OUTPUT = 10,       /* the output is shorter than the LLDPDU */
+    TAMBOLUNE_REFUSED_LOUD_CHASSIS = 13, /* a new neighbour, and its chassis holds three on the port (N13) */
+    TAMBOLUNE_REFUSED_LIST = 14          /* the list is shorter than the entries (D4) */
 };
 
 /* What became of a frame on a port (N7). */
@@ -83,6 +91,14 @@ enum tambolune_reply {
     TAMBOLUNE_REFRESHED = 2,
     TAMBOLUNE_GONE = 3,
     TAMBOLUNE_UNKNOWN_GOODBYE = 4
+};
+
+/* What changed of a neighbour from the first table to the second (D1). */
+enum tambolune_change {
+    TAMBOLUNE_CHANGE_LEFT = 1,    /* only the first has it */
+    TAMBOLUNE_CHANGE_JOINED = 2,  /* only the second has it */
+    TAMBOLUNE_CHANGE_SECONDS = 3, /* both have it, and nothing but the seconds left differs */
+    TAMBOLUNE_CHANGE_ALTERED = 4  /* both have it, and the octets of its LLDPDU or its sender differ */
 };
 
 /* Whether a valid frame is HTIP (H1); whether a field is present (X5); whether an address is seen (X4). */
@@ -96,8 +112,8 @@ enum tambolune_chassis { TAMBOLUNE_CHASSIS_ADDRESS = 4, TAMBOLUNE_CHASSIS_LOCAL 
 /* ---- The calls of the library (X1) ----
  *
  * Each says which refusals it gives; enum tambolune_refusal has what the numbers mean.
- * Any slice of another length than X2 says is refused with 1, before all else. Frame, LLDPDU, text and output may
- * have any length. Numbers in octets have their high octet first. X4 and X5 say what each octet of an answer is. */
+ * Any slice of another length than X2 says is refused with 1, before all else. Frame, LLDPDU, text, output and list
+ * may have any length. Numbers in octets have their high octet first. X4 and X5 say what each octet of an answer is. */
 
 /* A frame's LLDPDU length, verdict, chassis, port ID and seconds. Its parts count from octet 14 of the frame, where
  * the LLDPDU begins. Refusals: 1 a wrong length of the answer; 3 to 6 the frame is not valid. */
@@ -162,6 +178,22 @@ uint8_t tambolune_who_sees(const uint8_t *ports, size_t ports_octets, const uint
                            size_t senders_octets, const uint8_t *buffer, size_t buffer_octets,
                            const uint8_t *address, size_t address_octets, size_t start, uint8_t *answer,
                            size_t answer_octets);
+
+/* What changed from the first table to the second, which may be the older look. The list gets an entry for each
+ * neighbour of which something changed (D1), in the order of D2: one of enum tambolune_change, then a place, which is
+ * one of the first table where the neighbour left, and of the second for any other kind. The answer is how many there
+ * are; the octets of the list behind them stay as they were. The list may have any length, and with
+ * TAMBOLUNE_LIST_OCTETS it is never too short.
+ * Refusals: 1 a wrong length of a slice, or a table is not fit; 14 the list is shorter than the entries. */
+uint8_t tambolune_compare(const uint8_t *first_ports, size_t first_ports_octets, const uint8_t *first_seconds,
+                          size_t first_seconds_octets, const uint8_t *first_lengths, size_t first_lengths_octets,
+                          const uint8_t *first_senders, size_t first_senders_octets, const uint8_t *first_buffer,
+                          size_t first_buffer_octets, const uint8_t *second_ports, size_t second_ports_octets,
+                          const uint8_t *second_seconds, size_t second_seconds_octets,
+                          const uint8_t *second_lengths, size_t second_lengths_octets,
+                          const uint8_t *second_senders, size_t second_senders_octets,
+                          const uint8_t *second_buffer, size_t second_buffer_octets, uint8_t *list,
+                          size_t list_octets, uint8_t *answer, size_t answer_octets);
 
 /* ---- Structs ---- */
 
@@ -266,6 +298,13 @@ typedef struct tambolune_sight {
     tambolune_counted interface_type;
     tambolune_counted port_number;
 } tambolune_sight;
+
+/* What changed of one neighbour: `kind` is one of enum tambolune_change. `place` is one of the first table where the
+ * neighbour left, and of the second for any other kind; tambolune_place_port and those below it say what is there. */
+typedef struct tambolune_entry {
+    uint8_t kind;
+    uint8_t place;
+} tambolune_entry;
 
 /* ---- Octets and structs, each way ---- */
 
@@ -538,6 +577,42 @@ static inline uint8_t tambolune_table_who_sees(const tambolune_table *table, con
         sight->place = tambolune_number_from_octets(answer + 1);
         sight->interface_type = tambolune_counted_from_octets(answer + 3);
         sight->port_number = tambolune_counted_from_octets(answer + 8);
+    }
+    return refusal;
+}
+
+/* What changed from the first table to the second. `entries` has room for `room` of them; TAMBOLUNE_ENTRIES are always
+ * enough. It gets them in the order of D2, and `count` how many there are; what is behind them stays as it was. A table
+ * may be compared with itself. Refusals: 1, 14. */
+static inline uint8_t tambolune_table_compare(const tambolune_table *first, const tambolune_table *second,
+                                              tambolune_entry *entries, size_t room, uint16_t *count)
+{
+    uint8_t list[TAMBOLUNE_LIST_OCTETS];
+    uint8_t answer[TAMBOLUNE_COMPARED_OCTETS];
+    size_t list_octets = TAMBOLUNE_ENTRY_OCTETS * (room < TAMBOLUNE_ENTRIES ? room : TAMBOLUNE_ENTRIES);
+    uint8_t refusal;
+    size_t i;
+    if (first == second) {
+        /* Its slices would overlap (X7). No entry is due if it is fit (D5), and another call says whether it is. */
+        uint8_t held;
+        refusal = tambolune_table_how_many(first, 0, &held);
+        if (refusal == TAMBOLUNE_NOT_REFUSED) {
+            *count = 0;
+        }
+        return refusal;
+    }
+    refusal = tambolune_compare(
+        first->ports, sizeof first->ports, first->seconds, sizeof first->seconds, first->lengths,
+        sizeof first->lengths, first->senders, sizeof first->senders, first->buffer, sizeof first->buffer,
+        second->ports, sizeof second->ports, second->seconds, sizeof second->seconds, second->lengths,
+        sizeof second->lengths, second->senders, sizeof second->senders, second->buffer, sizeof second->buffer, list,
+        list_octets, answer, sizeof answer);
+    if (refusal == TAMBOLUNE_NOT_REFUSED) {
+        *count = tambolune_number_from_octets(answer);
+        for (i = 0; i < *count; i++) {
+            entries[i].kind = list[TAMBOLUNE_ENTRY_OCTETS * i];
+            entries[i].place = list[TAMBOLUNE_ENTRY_OCTETS * i + 1];
+        }
     }
     return refusal;
 }

@@ -3,19 +3,22 @@
 #include <stdio.h>
 #include <stdlib.h>
 
-/* The calls that take frame, LLDPDU, text or output go through functions of this file, which see that no pointer is NULL. */
+/* The calls that take frame, LLDPDU, text, output or list go through functions of this file, which see that no pointer is NULL. */
 #define tambolune_judge spied_judge
 #define tambolune_read spied_read
 #define tambolune_read_lldpdu spied_read_lldpdu
 #define tambolune_write spied_write
 #define tambolune_frame_on_port spied_frame_on_port
+#define tambolune_compare spied_compare
 #include "tambolune.h"
 #undef tambolune_judge
 #undef tambolune_read
 #undef tambolune_read_lldpdu
 #undef tambolune_write
 #undef tambolune_frame_on_port
+#undef tambolune_compare
 
+#define COUNT(rows) (sizeof(rows) / sizeof(rows)[0])
 #define CHECK(holds) check((holds), #holds, __LINE__)
 
 static unsigned long checks;
@@ -57,6 +60,8 @@ uint8_t tambolune_read(in, size_t, out, size_t, out, size_t);
 uint8_t tambolune_read_lldpdu(in, size_t, out, size_t, out, size_t);
 uint8_t tambolune_write(in, size_t, in, size_t, out, size_t, out, size_t);
 uint8_t tambolune_frame_on_port(out, size_t, out, size_t, out, size_t, out, size_t, out, size_t, size_t, in, size_t, out, size_t);
+uint8_t tambolune_compare(in, size_t, in, size_t, in, size_t, in, size_t, in, size_t, in, size_t, in, size_t, in, size_t, in, size_t,
+                          in, size_t, out, size_t, out, size_t);
 
 uint8_t spied_judge(in frame, size_t frame_octets, out answer, size_t answer_octets)
 {
@@ -92,6 +97,35 @@ uint8_t spied_frame_on_port(out ports, size_t ports_octets, out seconds, size_t 
                                    buffer, buffer_octets, port, frame, frame_octets, answer, answer_octets);
 }
 
+/* No two of these slices overlap (X7). One table twice is the easiest way to lend such. */
+static int apart(const in *slices, const size_t *octets, size_t count)
+{
+    for (size_t i = 0; i < count; i++) {
+        for (size_t j = 0; j < i; j++) {
+            uintptr_t one = (uintptr_t)slices[i], other = (uintptr_t)slices[j];
+            if (one < other + octets[j] && other < one + octets[i]) {
+                return 0;
+            }
+        }
+    }
+    return 1;
+}
+
+uint8_t spied_compare(in ports, size_t ports_octets, in seconds, size_t seconds_octets, in lengths, size_t lengths_octets, in senders,
+                      size_t senders_octets, in buffer, size_t buffer_octets, in ports2, size_t ports2_octets, in seconds2,
+                      size_t seconds2_octets, in lengths2, size_t lengths2_octets, in senders2, size_t senders2_octets, in buffer2,
+                      size_t buffer2_octets, out list, size_t list_octets, out answer, size_t answer_octets)
+{
+    const in slices[] = {ports, seconds, lengths, senders, buffer, ports2, seconds2, lengths2, senders2, buffer2, list, answer};
+    const size_t octets[] = {ports_octets,    seconds_octets,  lengths_octets,  senders_octets, buffer_octets, ports2_octets,
+                             seconds2_octets, lengths2_octets, senders2_octets, buffer2_octets, list_octets,   answer_octets};
+    CHECK(list != NULL && answer != NULL);
+    CHECK(apart(slices, octets, COUNT(slices)));
+    return tambolune_compare(ports, ports_octets, seconds, seconds_octets, lengths, lengths_octets, senders, senders_octets, buffer,
+                             buffer_octets, ports2, ports2_octets, seconds2, seconds2_octets, lengths2, lengths2_octets, senders2,
+                             senders2_octets, buffer2, buffer2_octets, list, list_octets, answer, answer_octets);
+}
+
 /* ---- Sizes and numbers ---- */
 
 static void test_sizes(void)
@@ -113,13 +147,16 @@ static void test_sizes(void)
         {1, TAMBOLUNE_REPLY_OCTETS, tambolune_size_reply()},
         {1, TAMBOLUNE_COUNT_OCTETS, tambolune_size_count()},
         {13, TAMBOLUNE_SIGHT_OCTETS, tambolune_size_sight()},
+        {2, TAMBOLUNE_COMPARED_OCTETS, tambolune_size_compared()},
+        {2, TAMBOLUNE_ENTRY_OCTETS, tambolune_size_entry()},
         {14, TAMBOLUNE_HEADER_OCTETS, tambolune_size_header()},
     };
-    for (size_t i = 0; i < sizeof rows / sizeof rows[0]; i++) {
+    for (size_t i = 0; i < COUNT(rows); i++) {
         CHECK(rows[i].header == rows[i].library);
         CHECK(rows[i].header == rows[i].due);
     }
     CHECK(sizeof(tambolune_table) == 40 + 80 + 80 + 240 + 60000);
+    CHECK(TAMBOLUNE_ENTRIES == 80 && TAMBOLUNE_LIST_OCTETS == 160);
 }
 
 static void test_enums(void)
@@ -128,7 +165,10 @@ static void test_enums(void)
     CHECK(TAMBOLUNE_REFUSED_HEADER == 3 && TAMBOLUNE_REFUSED_FIRST_TLVS == 4 && TAMBOLUNE_REFUSED_CUT_SHORT == 5);
     CHECK(TAMBOLUNE_REFUSED_LATER_TLV == 6 && TAMBOLUNE_REFUSED_PORT_FULL == 7 && TAMBOLUNE_REFUSED_COMMON_TAKEN == 8);
     CHECK(TAMBOLUNE_REFUSED_DESCRIPTION == 9 && TAMBOLUNE_REFUSED_OUTPUT == 10 && TAMBOLUNE_REFUSED_LOUD_CHASSIS == 13);
+    CHECK(TAMBOLUNE_REFUSED_LIST == 14);
     CHECK(TAMBOLUNE_RECORDED == 1 && TAMBOLUNE_REFRESHED == 2 && TAMBOLUNE_GONE == 3 && TAMBOLUNE_UNKNOWN_GOODBYE == 4);
+    CHECK(TAMBOLUNE_CHANGE_LEFT == 1 && TAMBOLUNE_CHANGE_JOINED == 2);
+    CHECK(TAMBOLUNE_CHANGE_SECONDS == 3 && TAMBOLUNE_CHANGE_ALTERED == 4);
     CHECK(TAMBOLUNE_NOT_HTIP == 0 && TAMBOLUNE_HTIP == 1 && TAMBOLUNE_ABSENT == 0 && TAMBOLUNE_PRESENT == 1);
     CHECK(TAMBOLUNE_NOBODY == 0 && TAMBOLUNE_SOMEBODY == 1);
     CHECK(TAMBOLUNE_CHASSIS_ADDRESS == 4 && TAMBOLUNE_CHASSIS_LOCAL == 7);
@@ -149,7 +189,6 @@ struct row {
 #define DP(from, member) PART(tambolune_description, from, member)
 #define J(from, octets, member) ROW(tambolune_judged, from, octets, member)
 #define S(from, octets, member) ROW(tambolune_sight, from, octets, member)
-#define COUNT(rows) (sizeof(rows) / sizeof(rows)[0])
 
 /* X5 */
 static const struct row description_rows[] = {
@@ -190,6 +229,12 @@ static const struct row sight_rows[] = {
     S(4, 4, interface_type.value),
     S(8, 1, port_number.octets),
     S(9, 4, port_number.value),
+};
+
+/* D3 */
+static const struct row entry_rows[] = {
+    ROW(tambolune_entry, 0, 1, kind),
+    ROW(tambolune_entry, 1, 1, place),
 };
 
 static uint32_t number_at(const uint8_t *octets, size_t count)
@@ -307,7 +352,8 @@ static int guarded(size_t answer_octets)
 /* The lengths of the table's slices (X2). They are handed in, so that wrong ones can be tried. */
 static const size_t right[5] = {40, 80, 80, 240, 60000};
 
-#define TABLE(n) lent.ports, n[0], lent.seconds, n[1], lent.lengths, n[2], lent.senders, n[3], lent.buffer, n[4]
+#define SLICES(of, n) of.ports, n[0], of.seconds, n[1], of.lengths, n[2], of.senders, n[3], of.buffer, n[4]
+#define TABLE(n) SLICES(lent, n)
 
 static void test_description_octets(void)
 {
@@ -317,6 +363,7 @@ static void test_description_octets(void)
     check_rows(description_rows, COUNT(description_rows), 85);
     check_rows(judged_rows, COUNT(judged_rows), 15);
     check_rows(sight_rows, COUNT(sight_rows), 13);
+    check_rows(entry_rows, COUNT(entry_rows), 2);
     for (unsigned turn = 0; turn < 20000; turn++) {
         uint8_t octets[85];
         tambolune_description description;
@@ -924,9 +971,118 @@ static uint8_t sight_both(const uint8_t *address, size_t start, tambolune_sight 
     return refusal;
 }
 
+/* ---- Two looks at the table ---- */
+
+static tambolune_table look, look_before;
+
+static void take_look(void)
+{
+    look = table;
+    look_before = table;
+}
+
+/* The place of a table that has the same neighbour as a used place of another, or 40. Chassis ID and port ID, with
+ * their lengths and subtypes, are the first two TLVs (N2, L6). */
+static size_t place_of(const tambolune_table *sought, const tambolune_table *other, size_t place)
+{
+    const uint8_t *lldpdu = other->buffer + 1500 * place;
+    size_t chassis = 2 + number_at(lldpdu, 2) % 512, both = chassis + 2 + number_at(lldpdu + chassis, 2) % 512, i = 0;
+    while (i < 40 && (sought->ports[i] != other->ports[place] || memcmp(sought->buffer + 1500 * i, lldpdu, both) != 0)) {
+        i++;
+    }
+    return i;
+}
+
+/* The kind of a neighbour that is in place `i` of the first table and in place `j` of the second (D1); 0 for no change. */
+static uint8_t kind_of(const tambolune_table *first, size_t i, const tambolune_table *second, size_t j)
+{
+    if (memcmp(first->senders + 6 * i, second->senders + 6 * j, 6) != 0 ||
+        memcmp(first->buffer + 1500 * i, second->buffer + 1500 * j, 1500) != 0) {
+        return 4;
+    }
+    return memcmp(first->seconds + 2 * i, second->seconds + 2 * j, 2) != 0 ? 3 : 0;
+}
+
+/* The entries that are due, in the order of D2; how many there are. */
+static size_t due_entries(const tambolune_table *first, const tambolune_table *second, tambolune_entry *due)
+{
+    size_t count = 0;
+    for (size_t i = 0; i < 40; i++) {
+        if (number_at(first->lengths + 2 * i, 2) > 0) {
+            size_t j = place_of(second, first, i);
+            due[count].kind = j == 40 ? 1 : kind_of(first, i, second, j);
+            due[count].place = (uint8_t)(j == 40 ? i : j);
+            count += due[count].kind > 0;
+        }
+    }
+    for (size_t j = 0; j < 40; j++) {
+        if (number_at(second->lengths + 2 * j, 2) > 0 && place_of(first, second, j) == 40) {
+            due[count].kind = 2;
+            due[count++].place = (uint8_t)j;
+        }
+    }
+    return count;
+}
+
+struct changes {
+    tambolune_entry entries[81];
+    uint16_t count;
+};
+
+/* Compares the look with the table, or back, with room for so many entries. Both are fit. */
+static uint8_t compare_both(int back, size_t space, struct changes *changes)
+{
+    tambolune_entry due[80];
+    size_t due_count = back ? due_entries(&table, &look, due) : due_entries(&look, &table, due);
+    uint8_t refusal;
+    ANSWER(struct changes);
+    memset(lent.output, MARK, sizeof lent.output);
+    mark_answer();
+    if (back) {
+        refusal = tambolune_table_compare(&table, &look, room.value.entries, space, &room.value.count);
+        CHECK(tambolune_compare(TABLE(right), SLICES(look, right), lent.output, 2 * space, lent.answer, 2) == refusal);
+    } else {
+        refusal = tambolune_table_compare(&look, &table, room.value.entries, space, &room.value.count);
+        CHECK(tambolune_compare(SLICES(look, right), TABLE(right), lent.output, 2 * space, lent.answer, 2) == refusal);
+    }
+    settle(refusal, 2);
+    CHECK(memcmp(&look, &look_before, sizeof look) == 0);
+    CHECK(refusal == (due_count <= space ? 0 : 14));
+    if (refusal != 0) {
+        CHECK(UNTOUCHED);
+    } else {
+        CHECK(GUARDED && room.value.count == due_count && number_at(lent.answer, 2) == due_count);
+        for (size_t i = 0; i < due_count; i++) {
+            CHECK(SAME(&due[i], lent.output + 2 * i, entry_rows));
+            CHECK(SAME_STRUCTS(&due[i], &room.value.entries[i], entry_rows));
+        }
+        CHECK(marked(lent.output + 2 * due_count, sizeof lent.output - 2 * due_count));
+        CHECK(marked((const uint8_t *)(room.value.entries + due_count), sizeof room.value.entries - due_count * sizeof due[0]));
+    }
+    *changes = room.value;
+    return refusal;
+}
+
+/* In every room up to one too many, both ways. The kinds of the entries are counted. */
+static void compare_in_every_room(unsigned long *kinds)
+{
+    for (int back = 0; back <= 1; back++) {
+        struct changes changes;
+        size_t space = 0;
+        while (compare_both(back, space, &changes) == 14) {
+            space++;
+        }
+        CHECK(changes.count == space);
+        for (size_t i = 0; i < space; i++) {
+            kinds[changes.entries[i].kind]++;
+        }
+        CHECK(compare_both(back, space + 1, &changes) == 0 && compare_both(back, 80, &changes) == 0);
+    }
+}
+
 static void test_table_at_random(void)
 {
-    unsigned long replies[5] = {0}, refusals[14] = {0};
+    unsigned long replies[5] = {0}, refusals[14] = {0}, kinds[5] = {0};
     unsigned long seen = 0;
     uint8_t reply, count;
     tambolune_sight sight;
@@ -936,6 +1092,7 @@ static void test_table_at_random(void)
     CHECK(frame_both(0, made.frame, made.octets, &reply) == 1 && seconds_both(0) == 1 && lost_both(0) == 1);
     CHECK(count_both(0, &count) == 1 && sight_both(made.frame, 0, &sight) == 1);
     start_both();
+    take_look();
     for (unsigned turn = 0; turn < 12000; turn++) {
         const uint16_t lives[] = {0, 1, 120, 300, 65535};
         uint8_t address[6] = {2, 0, 0, 0, 0, (uint8_t)below(5)};
@@ -968,6 +1125,10 @@ static void test_table_at_random(void)
         if (turn % 16 == 0) {
             check_places();
         }
+        if (turn % 64 == 0) {
+            compare_in_every_room(kinds);
+            take_look();
+        }
     }
     /* All that can be answered was met, so nothing above was compared in vain. */
     CHECK(replies[1] > 0 && replies[2] > 0 && replies[3] > 0 && replies[4] > 0 && seen > 0);
@@ -975,6 +1136,7 @@ static void test_table_at_random(void)
         CHECK(refusals[refusal] > 0);
     }
     CHECK(refusals[7] > 0 && refusals[8] > 0 && refusals[13] > 0);
+    CHECK(kinds[1] > 0 && kinds[2] > 0 && kinds[3] > 0 && kinds[4] > 0);
 }
 
 /* What is due follows from how each frame was made. Records fill the places from 0 on. */
@@ -1008,6 +1170,96 @@ static void test_table_by_the_rules(void)
             CHECK(frame_both(port, made.frame, made.octets, &reply) == 0 && reply == TAMBOLUNE_REFRESHED);
         }
     }
+}
+
+static void hear(size_t port, const struct made *m, uint8_t due)
+{
+    uint8_t reply;
+    CHECK(frame_both(port, m->frame, m->octets, &reply) == 0 && reply == due);
+}
+
+/* One change of each kind, and of each way to be altered (D1). What is due is typed. */
+static void test_changes_by_the_rules(void)
+{
+    static struct made neighbours[6];
+    static const uint8_t ports[6] = {0, 0, 5, 9, 9, 9};
+    static const tambolune_entry due[5] = {{4, 1}, {1, 2}, {4, 3}, {3, 4}, {2, 2}};
+    struct changes changes;
+    unsigned long kinds[5] = {0};
+    start_both();
+    for (size_t i = 0; i < 6; i++) {
+        make(&neighbours[i], 300, 0);
+    }
+    for (size_t i = 0; i < 5; i++) {
+        hear(ports[i], &neighbours[i], TAMBOLUNE_RECORDED);
+    }
+    take_look();
+    /* Nothing but their seconds: the places keep their order. */
+    CHECK(seconds_both(20) == 0);
+    CHECK(compare_both(0, 5, &changes) == 0 && changes.count == 5);
+    for (size_t i = 0; i < 5; i++) {
+        CHECK(changes.entries[i].kind == TAMBOLUNE_CHANGE_SECONDS && changes.entries[i].place == i);
+    }
+    /* The first is as it was, the second has another sender, the third left, the fourth has other octets, and the
+     * sixth takes the place that the third had (N4). */
+    hear(ports[0], &neighbours[0], TAMBOLUNE_REFRESHED);
+    neighbours[1].frame[11] ^= 1;
+    hear(ports[1], &neighbours[1], TAMBOLUNE_REFRESHED);
+    CHECK(lost_both(ports[2]) == 0);
+    lldpdu_of(&neighbours[3])[neighbours[3].due.description.category.start] ^= 1;
+    hear(ports[3], &neighbours[3], TAMBOLUNE_REFRESHED);
+    hear(ports[5], &neighbours[5], TAMBOLUNE_RECORDED);
+    for (int back = 0; back <= 1; back++) {
+        CHECK(compare_both(back, 5, &changes) == 0 && changes.count == 5);
+        for (size_t i = 0; i < 5; i++) {
+            CHECK(SAME_STRUCTS(&changes.entries[i], &due[i], entry_rows));
+        }
+        CHECK(compare_both(back, 4, &changes) == 14);
+    }
+    compare_in_every_room(kinds);
+    /* No room is so large that its octets are counted wrongly. */
+    CHECK(tambolune_table_compare(&look, &table, changes.entries, SIZE_MAX / 2 + 1, &changes.count) == 0 && changes.count == 5);
+}
+
+/* A table with new neighbours in all places, four on each port. */
+static void fill_table(void)
+{
+    start_both();
+    for (size_t i = 0; i < 40; i++) {
+        make(&made, 300, 0);
+        hear(i % 10, &made, TAMBOLUNE_RECORDED);
+    }
+}
+
+/* No list is longer than that of two full tables without a neighbour in common (D4). */
+static void test_changes_of_full_tables(void)
+{
+    unsigned long kinds[5] = {0};
+    fill_table();
+    take_look();
+    fill_table();
+    compare_in_every_room(kinds);
+    CHECK(kinds[1] == 80 && kinds[2] == 80 && kinds[3] == 0 && kinds[4] == 0);
+}
+
+/* A table with itself, and with one that is not fit: 1 goes before 14 (D4). */
+static void test_changes_of_one_table(void)
+{
+    tambolune_entry entry = {7, 7};
+    uint16_t count = 7;
+    start_both();
+    make(&made, 120, 1);
+    hear(3, &made, TAMBOLUNE_RECORDED);
+    CHECK(tambolune_table_compare(&table, &table, &entry, 1, &count) == 0 && count == 0);
+    take_look();
+    look.ports[0] = 10;
+    count = 7;
+    for (size_t space = 0; space <= 1; space++) {
+        CHECK(tambolune_table_compare(&look, &look, &entry, space, &count) == 1);
+        CHECK(tambolune_table_compare(&look, &table, &entry, space, &count) == 1);
+        CHECK(tambolune_table_compare(&table, &look, &entry, space, &count) == 1);
+    }
+    CHECK(count == 7 && entry.kind == 7 && entry.place == 7);
 }
 
 /* The sender of a place may be asked for as it stands in the table. */
@@ -1063,15 +1315,19 @@ static void check_table_refused(const size_t *n)
     CHECK(tambolune_frame_on_port(TABLE(n), 10, made.frame, 0, lent.answer, 1) == 1 && untouched());
     CHECK(tambolune_how_many(TABLE(n), 10, lent.answer, 1) == 1 && untouched());
     CHECK(tambolune_who_sees(TABLE(n), address, 6, 40, lent.answer, 13) == 1 && untouched());
+    CHECK(tambolune_compare(TABLE(n), SLICES(look, right), lent.output, 160, lent.answer, 2) == 1 && untouched());
+    CHECK(tambolune_compare(SLICES(look, right), TABLE(n), lent.output, 0, lent.answer, 2) == 1 && untouched());
 }
 
 static void test_lengths(void)
 {
-    uint8_t octets[86] = {0}, reply;
+    uint8_t octets[86] = {0};
     start_both();
+    take_look();
     make(&made, 120, 1);
-    CHECK(frame_both(0, made.frame, made.octets, &reply) == 0);
+    hear(0, &made, TAMBOLUNE_RECORDED);
     mark_answer();
+    CHECK(tambolune_compare(SLICES(look, right), TABLE(right), lent.output, 0, lent.answer, 2) == 14 && untouched());
     for (size_t i = 0; i < 5; i++) {
         size_t n[5];
         memcpy(n, right, sizeof n);
@@ -1088,6 +1344,7 @@ static void test_lengths(void)
         CHECK(tambolune_how_many(TABLE(right), 10, lent.answer, more) == 1 && untouched());
         CHECK(tambolune_who_sees(TABLE(right), octets, 6, 0, lent.answer, 12 + more) == 1 && untouched());
         CHECK(tambolune_who_sees(TABLE(right), octets, 5 + more, 0, lent.answer, 13) == 1 && untouched());
+        CHECK(tambolune_compare(SLICES(look, right), TABLE(right), lent.output, 0, lent.answer, 1 + more) == 1 && untouched());
         CHECK(tambolune_judge(octets, 0, lent.answer, 14 + more) == 1 && untouched());
         CHECK(tambolune_read(octets, 0, lent.answer, 2 + more, lent.description, 85) == 1 && untouched());
         CHECK(tambolune_read(octets, 0, lent.answer, 3, lent.description, 84 + more) == 1 && untouched());
@@ -1107,7 +1364,7 @@ static void test_no_octets(void)
     tambolune_judged judged;
     tambolune_reading reading;
     tambolune_description nothing;
-    uint16_t written = 7;
+    uint16_t written = 7, count = 7;
     uint8_t reply = 7;
     memset(&nothing, 0, sizeof nothing);
     make(&made, 120, 0);
@@ -1122,6 +1379,11 @@ static void test_no_octets(void)
     CHECK(tambolune_table_frame(&table, 10, NULL, 0, &reply) == 2);
     CHECK(written == 7 && reply == 7);
     CHECK(tambolune_lldpdu_read(tambolune_place_lldpdu(&table, 0), tambolune_place_length(&table, 0), &reading) == 5);
+    take_look();
+    CHECK(tambolune_table_compare(&look, &table, NULL, 0, &count) == 0 && count == 0);
+    count = 7;
+    CHECK(tambolune_table_frame(&table, 0, made.frame, made.octets, &reply) == 0);
+    CHECK(tambolune_table_compare(&look, &table, NULL, 0, &count) == 14 && count == 7);
 }
 
 /* Frame A of the rules (B1), and what is due of it, counted by hand. */
@@ -1169,6 +1431,9 @@ int main(void)
     test_writing();
     test_table_at_random();
     test_table_by_the_rules();
+    test_changes_by_the_rules();
+    test_changes_of_full_tables();
+    test_changes_of_one_table();
     test_own_sender();
     test_lengths();
     test_no_octets();

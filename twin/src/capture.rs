@@ -158,29 +158,38 @@ fn seconds_between(before: Option<u32>, stamp: u32) -> u16 {
     passed.min(MOST_SECONDS) as u16
 }
 
-/// The replay program on a file: from a table that was just started to the text (J3).
+/// The replay program on a file (J3).
 pub fn replay_text(file: &[u8], port: usize, limit: u64) -> String {
+    let (answer, table, buffer) = replayed(file, port, limit);
+    shown(answer, &table, &buffer)
+}
+
+/// A file on a table that was just started: the answer, the table and its buffer.
+pub(crate) fn replayed(file: &[u8], port: usize, limit: u64) -> (Answer, Table, Vec<u8>) {
     let mut table = Table::default();
     let mut buffer = vec![0; BUFFER_OCTETS];
     table.start(&mut buffer).expect("the buffer has its length");
     let answer = replay(&mut table, &mut buffer, port, limit, file);
-    shown(answer, &table, &buffer)
+    (answer, table, buffer)
 }
 
 /// A line for each used place, or the refusal alone (J3).
 pub fn shown(answer: Answer, table: &Table, buffer: &[u8]) -> String {
     match answer {
-        Answer::Handed(_) => table.used().map(|place| line_of(table, buffer, place)).collect(),
+        Answer::Handed(_) => {
+            let line = |place| record_text(table, buffer, place, &table.seconds[place].to_string());
+            table.used().map(line).collect()
+        }
         Answer::Refused(number) => format!("refused {number}\n"),
     }
 }
 
-fn line_of(table: &Table, buffer: &[u8], place: usize) -> String {
+/// Port, seconds, chassis, port ID and sender of a record (J3), with this text for the seconds.
+pub(crate) fn record_text(table: &Table, buffer: &[u8], place: usize, seconds: &str) -> String {
     let outline = table.outline(buffer, place).expect("a table that is shown is fit");
     format!(
-        "{} {} {} {} {} {}\n",
+        "{} {seconds} {} {} {} {}\n",
         table.port[place],
-        table.seconds[place],
         chassis_text(&outline.chassis),
         outline.port.subtype,
         joined(&outline.port.octets),
@@ -197,7 +206,7 @@ fn chassis_text(chassis: &Id) -> String {
 }
 
 /// Octet by octet, two capital hex digits each, joined by `-` (J2).
-fn joined(octets: &[u8]) -> String {
+pub(crate) fn joined(octets: &[u8]) -> String {
     let digits: Vec<String> = octets.iter().map(|octet| format!("{octet:02X}")).collect();
     digits.join("-")
 }

@@ -10,8 +10,8 @@
 //! sequence. Some edits of senders spoil nothing, and calls follow as on any table.
 
 mod bench;
-mod chassis;
-mod desk;
+pub(crate) mod chassis;
+pub(crate) mod desk;
 mod extension;
 mod last;
 mod loud;

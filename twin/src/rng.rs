@@ -6,6 +6,7 @@ pub const FRAMES: u64 = 0x4C4C_4450_4854_4950;
 pub const ANNOUNCEMENTS: u64 = 0x414E_4E4F_554E_4345;
 pub const EVENTS: u64 = 0x4E45_4947_4842_5253;
 pub const CAPTURES: u64 = 0x4341_5054_5552_4553;
+pub const LOOKS: u64 = 0x5457_4F4C_4F4F_4B53;
 
 pub struct Rng {
     state: u64,

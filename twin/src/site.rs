@@ -118,6 +118,7 @@ fn at(seconds: u32, microseconds: u32, frame: Vec<u8>) -> Record {
 mod tests {
     use super::*;
     use crate::capture::{replay_text, ALL};
+    use crate::changes::changes_text;
 
     /// What is left at the end, by the times above: 90 + 120 - 120 seconds of the agents, and
     /// 116 + 60 - 120 of the drive that stays.
@@ -141,6 +142,20 @@ mod tests {
              3 30 02-00-00-00-00-02 3 02-00-00-00-00-02 02-00-00-00-00-02\n\
              3 24 local 0A1B 7 31 02-00-00-00-00-03\n\
              3 27 local 0A1C 7 31 02-00-00-00-00-04\n"
+        );
+    }
+
+    /// From the fourth frame, 5 seconds in, to the last but one at 116: the agents were heard at 90, the
+    /// first drive fell silent at 41, the second said goodbye, and the third came.
+    #[test]
+    fn what_changed_at_the_site() {
+        assert_eq!(
+            changes_text(&capture(), 3, [4, 18]),
+            "seconds 3 115 94 02-00-00-00-00-01 7 31 02-00-00-00-00-01\n\
+             seconds 3 115 94 02-00-00-00-00-01 7 32 02-00-00-00-00-0A\n\
+             left 3 26 - 02-00-00-00-00-02 3 02-00-00-00-00-02 02-00-00-00-00-02\n\
+             left 3 60 - local 0A1B 7 31 02-00-00-00-00-03\n\
+             joined 3 - 60 local 0A1C 7 31 02-00-00-00-00-04\n"
         );
     }
 

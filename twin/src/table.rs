@@ -96,7 +96,7 @@ pub struct Sighting {
 /// Chassis alone is not enough, and of both IDs the subtype and the number of octets count. The
 /// sender is no part of it (N2).
 #[derive(Clone, Debug, PartialEq, Eq)]
-struct Identity {
+pub(crate) struct Identity {
     receiving_port: u8,
     chassis: Id,
     port: Id,
@@ -246,7 +246,7 @@ impl Table {
     }
 
     /// A table that is not fit (N5) is refused by every call but Start (R1).
-    fn judge(&self, buffer: &[u8]) -> Result<(), Refusal> {
+    pub(crate) fn judge(&self, buffer: &[u8]) -> Result<(), Refusal> {
         let fit = CONDITIONS.iter().all(|(_, is_met)| is_met(self, buffer));
         fit.then_some(()).ok_or(UNFIT)
     }
@@ -297,12 +297,12 @@ impl Table {
         self.used().filter_map(|place| self.identity(buffer, place)).collect()
     }
 
-    fn identity(&self, buffer: &[u8], place: usize) -> Option<Identity> {
+    pub(crate) fn identity(&self, buffer: &[u8], place: usize) -> Option<Identity> {
         Some(Identity::of(self.port[place], &self.outline(buffer, place)?))
     }
 
     /// As many octets of the place as its length says; none where it has not so many.
-    fn lldpdu<'b>(&self, buffer: &'b [u8], place: usize) -> Option<&'b [u8]> {
+    pub(crate) fn lldpdu<'b>(&self, buffer: &'b [u8], place: usize) -> Option<&'b [u8]> {
         buffer[octets_of(place)].get(..usize::from(self.length[place]))
     }
 
@@ -329,7 +329,7 @@ impl Table {
     }
 
     /// The LLDPDU through its End, then zeros; of the header the source alone (N3).
-    fn put(
+    pub(crate) fn put(
         &mut self,
         buffer: &mut [u8],
         place: usize,

@@ -1,9 +1,12 @@
-//! The replay of a capture, C1 to C8, and the text of J3, as ordinary tests.
+//! The replay of a capture, C1 to C8, and the texts of J3 and J4, as ordinary tests.
 //! Octets and expected values are typed from the rules page by hand, never taken from the program.
 
+mod placed;
+
+use placed::Watch;
 use twin::capture::{number_of, replay, replay_text, shown, Answer, ALL};
 use twin::captures;
-use twin::table::{Table, BUFFER_OCTETS};
+use twin::changes::changes_text;
 
 use Answer::{Handed, Refused};
 
@@ -67,29 +70,9 @@ fn file(records: &[Vec<u8>]) -> Vec<u8> {
 /// Neighbours by number, with their seconds left.
 type Left = Vec<(u8, u16)>;
 
-/// A table with its buffer.
-#[derive(Clone, PartialEq)]
-struct Watch {
-    table: Table,
-    buffer: Vec<u8>,
-}
-
 impl Watch {
-    fn started() -> Watch {
-        Watch { table: Table::default(), buffer: vec![0; BUFFER_OCTETS] }
-    }
-
     fn replay(&mut self, port: usize, limit: u64, file: &[u8]) -> Answer {
         replay(&mut self.table, &mut self.buffer, port, limit, file)
-    }
-
-    /// Writes a record over a place, without asking anybody: port, seconds left, sender, LLDPDU.
-    fn write(&mut self, place: usize, (port, left, sender): (u8, u16, [u8; 6]), lldpdu: &[u8]) {
-        self.table.port[place] = port;
-        self.table.seconds[place] = left;
-        self.table.length[place] = lldpdu.len() as u16;
-        self.table.sender[place] = sender;
-        self.buffer[1_500 * place..][..lldpdu.len()].copy_from_slice(lldpdu);
     }
 
     /// Those that are there, in the order of the places.
@@ -527,6 +510,69 @@ fn the_replay_program() {
     for word in ["", "-1", "+1", " 1", "1 ", "1x", "0x1", "1.0", "\u{0661}"] {
         assert_eq!(number_of(word), None);
     }
+}
+
+/// J4: all four words, with the limits in either order. The sender is that of the second table, but of
+/// one that left.
+#[test]
+fn the_changes_program() {
+    let [mut described, mut from_another] = [heard(2, 120), heard(3, 120)];
+    described.splice(31..31, *b"\x08\x01A");
+    from_another[11] = 0x0B;
+    let records = file(&[
+        whole(0, &heard(1, 30)),
+        whole(0, &heard(2, 120)),
+        whole(0, &heard(3, 120)),
+        whole(0, &heard(4, 120)),
+        whole(20, &described),
+        whole(20, &from_another),
+        whole(30, &heard(5, 9)),
+    ]);
+    assert_eq!(
+        changes_text(&records, 3, [4, ALL]),
+        "left 3 30 - 02-00-00-00-00-01 7 31 02-00-00-00-00-0A\n\
+         altered 3 120 110 02-00-00-00-00-02 7 31 02-00-00-00-00-0A\n\
+         altered 3 120 110 02-00-00-00-00-03 7 31 02-00-00-00-00-0B\n\
+         seconds 3 120 90 02-00-00-00-00-04 7 31 02-00-00-00-00-0A\n\
+         joined 3 - 9 02-00-00-00-00-05 7 31 02-00-00-00-00-0A\n"
+    );
+    assert_eq!(
+        changes_text(&records, 3, [7, 4]),
+        "left 3 9 - 02-00-00-00-00-05 7 31 02-00-00-00-00-0A\n\
+         altered 3 110 120 02-00-00-00-00-02 7 31 02-00-00-00-00-0A\n\
+         altered 3 110 120 02-00-00-00-00-03 7 31 02-00-00-00-00-0A\n\
+         seconds 3 90 120 02-00-00-00-00-04 7 31 02-00-00-00-00-0A\n\
+         joined 3 - 30 02-00-00-00-00-01 7 31 02-00-00-00-00-0A\n"
+    );
+    for limit in [0, 4, 7, ALL] {
+        assert_eq!(changes_text(&records, 3, [limit, limit]), "");
+    }
+    // The second neighbour comes back to the place of the first, and is else the same.
+    let places = file(
+        &[(1, 60), (2, 60), (1, 0), (2, 0), (2, 60)]
+            .map(|(number, seconds)| whole(0, &heard(number, seconds))),
+    );
+    assert_eq!(
+        changes_text(&places, 9, [2, 5]),
+        "left 9 60 - 02-00-00-00-00-01 7 31 02-00-00-00-00-0A\n"
+    );
+}
+
+/// J4: a refusal of the one replay or of the other stands alone.
+#[test]
+fn the_changes_program_is_refused() {
+    let records = file(&[whole(0, &FRAME), whole(20, &heard(2, 30))]);
+    for limits in [[0, 0], [0, ALL], [ALL, 1]] {
+        assert_eq!(changes_text(&records, 10, limits), "refused 2\n");
+        assert_eq!(changes_text(&records[..23], 3, limits), "refused 11\n");
+    }
+    let torn = &records[..80];
+    assert_eq!(changes_text(torn, 3, [1, 2]), "refused 12\n");
+    assert_eq!(changes_text(torn, 3, [2, 1]), "refused 12\n");
+    assert_eq!(
+        changes_text(torn, 3, [0, 1]),
+        "joined 3 - 60 02-00-00-00-00-01 7 31 02-00-00-00-00-0A\n"
+    );
 }
 
 /// The files that another program is compared with do not change by themselves.

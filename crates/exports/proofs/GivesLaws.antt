@@ -55,7 +55,7 @@ use Rattle.octet_answers.specs.Answers.{Back, back, ifRight, writtenLong, count
 use Rattle.exports.specs.Calls.{Gives, Changes, addressLong, dueIfRight, writeRight, onWritten, writing, refusalOnWriting, stateIn, tableSlices, stateSlices, afterCall, frameRight, framing, countRight, counting, seeRight, seeing}
 
 -- What is to be shown of what an export gives, once it is known to be b
-gives : {ss : List (List ℕ)} {want b : Back} {due : ℕ} → b ≡ want → want .returned ≡ due → (want .returned ≢ 0 → want .slices ≡ ss) → Gives ss want due b
+pub gives : {ss : List (List ℕ)} {want b : Back} {due : ℕ} → b ≡ want → want .returned ≡ due → (want .returned ≢ 0 → want .slices ≡ ss) → Gives ss want due b
 gives e d s = record { exact = e; refusal = ap (λ (x : Back). x .returned) e ∙ d; stays = λ h. ap (λ (x : Back). x .slices) e ∙ s (λ z. h (ap (λ (x : Back). x .returned) e ∙ z)) }
 
 no : {A : Type 0} → _≡_ {A = Bool} false true → A
@@ -138,7 +138,7 @@ module _ (o s out a : List ℕ) where
 
 -- A call on the table that slices x and a buffer b mean; they then hold y and c, and the call left the table t in the struct
 
-right-gives : {right : Bool} {ss : List (List ℕ)} {want b : Back} {due : ℕ} → right ≡ true → Gives ss want due b → Gives ss (ifRight right ss want) (dueIfRight right due) b
+pub right-gives : {right : Bool} {ss : List (List ℕ)} {want b : Back} {due : ℕ} → right ≡ true → Gives ss want due b → Gives ss (ifRight right ss want) (dueIfRight right due) b
 right-gives e g = rw e g
 
 module _ (x y : Lent) (b c : List ℕ) (t : Table) (right : lengthsOk x ≡ true) (f : (i : ℕ) → Fits w8 (getD (x .seconds) i 0)) (g : (i : ℕ) → Fits w8 (getD (x .lengths) i 0)) (put : Puts t x y) where

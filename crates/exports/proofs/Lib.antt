@@ -2,5 +2,6 @@
 -- Nothing is proved a second time: each law hands on what the calls below promise.
 pub mod CappedLaws
 pub mod GivesLaws
+pub mod LooksLaws
 pub mod Sole
 pub mod SizesSole

@@ -30,6 +30,10 @@ use Rattle.exports.proofs.sizes.tambolune_size_count.Kinds as count-kin
 use Rattle.exports.proofs.sizes.tambolune_size_count.Reads as count
 use Rattle.exports.proofs.sizes.tambolune_size_sight.Kinds as sight-kinds
 use Rattle.exports.proofs.sizes.tambolune_size_sight.Reads as sight
+use Rattle.exports.proofs.sizes.tambolune_size_compared.Kinds as compared-kinds
+use Rattle.exports.proofs.sizes.tambolune_size_compared.Reads as compared
+use Rattle.exports.proofs.sizes.tambolune_size_entry.Kinds as entry-kinds
+use Rattle.exports.proofs.sizes.tambolune_size_entry.Reads as entry
 use Rattle.exports.proofs.sizes.tambolune_size_header.Kinds as header-kinds
 use Rattle.exports.proofs.sizes.tambolune_size_header.Reads as header
 
@@ -74,6 +78,12 @@ size-count-sole κs a r q x y e f = e ∙ sym f
 
 pub size-sight-sole : Sole 0 sight-kinds.ps sight-kinds.r sight.Post
 size-sight-sole κs a r q x y e f = e ∙ sym f
+
+pub size-compared-sole : Sole 0 compared-kinds.ps compared-kinds.r compared.Post
+size-compared-sole κs a r q x y e f = e ∙ sym f
+
+pub size-entry-sole : Sole 0 entry-kinds.ps entry-kinds.r entry.Post
+size-entry-sole κs a r q x y e f = e ∙ sym f
 
 pub size-header-sole : Sole 0 header-kinds.ps header-kinds.r header.Post
 size-header-sole κs a r q x y e f = e ∙ sym f

@@ -27,6 +27,8 @@ use Rattle.exports.proofs.calls.tambolune_how_many.Kinds as many-kinds
 use Rattle.exports.proofs.calls.tambolune_how_many.Reads as many
 use Rattle.exports.proofs.calls.tambolune_who_sees.Kinds as sees-kinds
 use Rattle.exports.proofs.calls.tambolune_who_sees.Reads as sees
+use Rattle.exports.proofs.looks.tambolune_compare.Kinds as compare-kinds
+use Rattle.exports.proofs.looks.tambolune_compare.Reads as compare
 
 pub judge-sole : SoleBack 2 judge-kinds.ps judge-kinds.r judge.Post (λ κs r x. back r (now (x .1 .0) ∷ []))
 judge-sole κs a r q x y e f = e .exact ∙ sym (f .exact)
@@ -63,3 +65,8 @@ how-many-sole κs a r q x y e f = e .exact ∙ sym (f .exact)
 
 pub who-sees-sole : SoleBack 7 sees-kinds.ps sees-kinds.r sees.Post (λ κs r x. back r (now (x .1 .1 .1 .1 .1 .1 .1 .0) ∷ []))
 who-sees-sole κs a r q x y e f = e .exact ∙ sym (f .exact)
+
+-- list and answer stand behind the ten slices of the two tables
+pub compare-sole : SoleBack 12 compare-kinds.ps compare-kinds.r compare.Post
+    (λ κs r x. back r (now (x .1 .1 .1 .1 .1 .1 .1 .1 .1 .1 .0) ∷ now (x .1 .1 .1 .1 .1 .1 .1 .1 .1 .1 .1 .0) ∷ []))
+compare-sole κs a r q x y e f = e .exact ∙ sym (f .exact)

@@ -23,9 +23,10 @@ use Rattle.fitness.specs.Refusals.{refusalWhenUnfit, refusalOnPort}
 use Rattle.freeing.specs.Calls.{After, stateAfter, refusalOfAnswer, started, refusalAtStart, passed, linkLost}
 use Rattle.hearing.specs.Frame.{Told, stateTold, heard, refusalOnFrame}
 use Rattle.questions.specs.Sight.{refusalOfCount, counted, refusalOfSight, sight}
+use Rattle.compare.specs.Compare.{refusalOfCompared, refusalOnComparing, Looked, compared}
 use Rattle.octet_table.specs.Lent.{Lent, lengthsOk, tableIn, lentOf}
 use Rattle.octet_description.specs.Octets.{size, descriptionIn, presencesOk}
-use Rattle.octet_answers.specs.Answers.{Back, back, ifRight, judgeRight, judged, readRight, readAnswer, writtenLong, replyLong, countLong, sightLong, writtenOctets, replyOctets, countOctets, sightOctets}
+use Rattle.octet_answers.specs.Answers.{Back, back, ifRight, judgeRight, judged, readRight, readAnswer, writtenLong, replyLong, countLong, sightLong, comparedLong, writtenOctets, replyOctets, countOctets, sightOctets, comparedOctets}
 
 abbrev pub dueIfRight : Bool → ℕ → ℕ
 dueIfRight right n = pick right n 1
@@ -117,6 +118,17 @@ unfoldable pub seeing : List ℕ → ℕ → Lent → List ℕ → List ℕ → 
 seeing w from x b a =
     ifRight (seeRight x w a) (a ∷ []) (back (refusalOfSight (sight w from (stateIn x b))) (sightOctets (sight w from (stateIn x b)) a ∷ []))
 
+-- Two tables: the slices x and the buffer b of the first, y and d of the second; the list l and the answer are written
+
+abbrev pub compareRight : Lent → Lent → List ℕ → Bool
+compareRight x y a = all (lengthsOk x ∷ lengthsOk y ∷ eqb (length a) comparedLong ∷ [])
+
+abbrev pub onLooked : Looked → List ℕ → Back
+onLooked t a = back (refusalOfCompared (t .answer)) (t .list ∷ comparedOctets (t .answer) a ∷ [])
+
+unfoldable pub comparing : Lent → List ℕ → Lent → List ℕ → List ℕ → List ℕ → Back
+comparing x b y d l a = ifRight (compareRight x y a) (l ∷ a ∷ []) (onLooked (compared (stateIn x b) (stateIn y d) l) a)
+
 -- The contract of each export: what it was lent, what the slices then hold (behind a stroke where both are named), and what it returned
 
 abbrev pub Judges : List ℕ → List ℕ → List ℕ → ℕ → Type 0
@@ -160,3 +172,7 @@ Counts p x b a a′ r = Gives (a ∷ []) (counting p x b a) (dueIfRight (countRi
 
 abbrev pub Sees : List ℕ → ℕ → Lent → List ℕ → List ℕ → List ℕ → ℕ → Type 0
 Sees w from x b a a′ r = Gives (a ∷ []) (seeing w from x b a) (dueIfRight (seeRight x w a) (refusalWhenUnfit (stateIn x b))) (back r (a′ ∷ []))
+
+abbrev pub Compares : Lent → List ℕ → Lent → List ℕ → List ℕ → List ℕ → List ℕ → List ℕ → ℕ → Type 0
+Compares x b y d l a l′ a′ r =
+    Gives (l ∷ a ∷ []) (comparing x b y d l a) (dueIfRight (compareRight x y a) (refusalOnComparing (stateIn x b) (stateIn y d) (length l))) (back r (l′ ∷ a′ ∷ []))

@@ -2,6 +2,7 @@
 // They are thin: the call that a caller of ours has is made on what the octets mean, and nothing is stored before every length is known to be right.
 mod calls;
 mod frames;
+mod looks;
 mod sizes;
 
 pub use calls::tambolune_frame_on_port;
@@ -14,10 +15,13 @@ pub use frames::tambolune_judge;
 pub use frames::tambolune_read;
 pub use frames::tambolune_read_lldpdu;
 pub use frames::tambolune_write;
+pub use looks::tambolune_compare;
 pub use sizes::tambolune_size_address;
 pub use sizes::tambolune_size_buffer;
+pub use sizes::tambolune_size_compared;
 pub use sizes::tambolune_size_count;
 pub use sizes::tambolune_size_description;
+pub use sizes::tambolune_size_entry;
 pub use sizes::tambolune_size_header;
 pub use sizes::tambolune_size_judged;
 pub use sizes::tambolune_size_numbers;

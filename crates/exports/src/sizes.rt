@@ -5,11 +5,13 @@ ghost use Rattle.numbers.specs.Sizes.{ports, places};
 ghost use Rattle.place.specs.State.{size, octets};
 ghost use Rattle.octet_table.specs.Lent.{numbersLong, sendersLong};
 ghost use Rattle.octet_description.specs.Octets.{size as descriptionLong};
-ghost use Rattle.octet_answers.specs.Answers.{judgedLong, verdictLong, writtenLong, replyLong, countLong, sightLong};
+ghost use Rattle.octet_answers.specs.Answers.{judgedLong, verdictLong, writtenLong, replyLong, countLong, sightLong, comparedLong};
 ghost use Rattle.exports.specs.Calls.{addressLong};
 use crate::calls::ADDRESS;
+use compare::ENTRY;
 use numbers::PLACES;
 use numbers::PORTS;
+use octet_answers::COMPARED;
 use octet_answers::COUNT;
 use octet_answers::JUDGED;
 use octet_answers::REPLY;
@@ -117,6 +119,20 @@ pub extern "C" fn tambolune_size_sight() -> usize
     ensures { λ r. ⌜ r ≡ sightLong ⌝ }
 {
     SIGHT
+}
+
+#[no_mangle]
+pub extern "C" fn tambolune_size_compared() -> usize
+    ensures { λ r. ⌜ r ≡ comparedLong ⌝ }
+{
+    COMPARED
+}
+
+#[no_mangle]
+pub extern "C" fn tambolune_size_entry() -> usize
+    ensures { λ r. ⌜ r ≡ 2 ⌝ }
+{
+    ENTRY
 }
 
 #[no_mangle]

@@ -9,7 +9,7 @@ ghost use Rattle.walk.specs.declared.Extent.the-variants.{Octets};
 ghost use Rattle.lldpdu.specs.Extent.{octetsIn};
 ghost use Rattle.lldpdu.specs.Outline.{outlineOf};
 ghost use Rattle.numbers.specs.Sizes.{ports, places};
-ghost use Rattle.place.specs.State.{size, octets, state, keep, find, ident, chassisIn, whoseIn, said};
+ghost use Rattle.place.specs.State.{size, octets, state, keep, chassisIn, whoseIn, said};
 ghost use Rattle.fitness.specs.Fit.{fit};
 ghost use Rattle.hearing.specs.Frame.{heardOf, reception, told, heardAt, heardNew, heardSaying, onHeard, Hears};
 use fitness::NO_PORT;
@@ -24,7 +24,7 @@ use numbers::PORTS;
 use numbers::Table;
 use numbers::first_free;
 use numbers::room_of;
-use place::is_of;
+use place::place_of;
 use place::release;
 use place::store;
 use reader::HEADER;
@@ -45,18 +45,6 @@ const CHASSIS_LOUD: u8 = 13;
 pub struct Reception {
     pub table: Table,
     pub reply: Reply,
-}
-
-// The place of a record with this identity, or PLACES where it is new (N2).
-fn place_of(t: Table, buffer: &[u8], p: u8, text: &[u8], chassis: IdPart, port: IdPart) -> usize
-    ensures { λ r. ⌜ r ≡ find (state t (now (buffer .entry))) (ident p (idMeant (now (text .entry)) chassis) (idMeant (now (text .entry)) port)) ⌝ }
-{
-    for i in 0..PLACES {
-        if is_of(buffer, i, t.length[i], t.port[i], p, text, chassis, port) {
-            return i;
-        }
-    }
-    PLACES
 }
 
 // A table that stays as it was, and what is answered.

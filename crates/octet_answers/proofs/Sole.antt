@@ -20,6 +20,8 @@ use Rattle.octet_answers.proofs.replies.answer_count.Kinds as count-kin
 use Rattle.octet_answers.proofs.replies.answer_count.Reads as count
 use Rattle.octet_answers.proofs.replies.answer_sight.Kinds as sight-kinds
 use Rattle.octet_answers.proofs.replies.answer_sight.Reads as sight
+use Rattle.octet_answers.proofs.replies.answer_compared.Kinds as compared-kinds
+use Rattle.octet_answers.proofs.replies.answer_compared.Reads as compared
 
 -- of a function that returns a number, with a contract P; f gives the slices that it may write
 abbrev pub SoleBack : (n : ℕ) (ps : List (PK n)) (k : RK n) → Out n ps k → ((κs : Lfts n) → resT k κs .Denot → AtExit (endedOf n ps k) κs → Back) → Type 0
@@ -43,3 +45,6 @@ answer-count-sole κs a r q x y e f = e ∙ sym f
 
 pub answer-sight-sole : SoleBack 1 sight-kinds.ps sight-kinds.r sight.Post (λ κs r x. back r (now (x .0) ∷ []))
 answer-sight-sole κs a r q x y e f = e ∙ sym f
+
+pub answer-compared-sole : SoleBack 1 compared-kinds.ps compared-kinds.r compared.Post (λ κs r x. back r (now (x .0) ∷ []))
+answer-compared-sole κs a r q x y e f = e ∙ sym f

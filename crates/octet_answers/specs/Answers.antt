@@ -23,6 +23,9 @@ use Rattle.questions.specs.declared.Count.{Count}
 use Rattle.questions.specs.declared.Count.the-variants as count-is
 use Rattle.questions.specs.declared.Sight.{Sight}
 use Rattle.questions.specs.declared.Sight.the-variants as sight-is
+use Rattle.compare.specs.Compare.{refusalOfCompared}
+use Rattle.compare.specs.declared.Compared.{Compared}
+use Rattle.compare.specs.declared.Compared.the-variants as compared-is
 use Rattle.octet_description.specs.Octets.{size, frontOctets, descriptionOctets}
 
 -- What comes back: the refusal number, 0 where there is none, and the slices in the order of the parameters
@@ -60,6 +63,9 @@ countLong = 1
 
 abbrev pub sightLong : ℕ
 sightLong = 13
+
+abbrev pub comparedLong : ℕ
+comparedLong = 2
 
 -- Of a reading
 
@@ -133,3 +139,12 @@ sightOctets (sight-is.At k interface port) a = placeOctets k interface port
 
 unfoldable pub seen : Sight → List ℕ → Back
 seen x a = answered sightLong (refusalOfSight x) (sightOctets x a) a
+
+-- Of a comparison: how many entries stand in the list (D3)
+
+abbrev pub comparedOctets : Compared → List ℕ → List ℕ
+comparedOctets (compared-is.Listed n) a = twoOctets n
+comparedOctets (compared-is.Refused n) a = a
+
+unfoldable pub comparedAnswer : Compared → List ℕ → Back
+comparedAnswer c a = answered comparedLong (refusalOfCompared c) (comparedOctets c a) a

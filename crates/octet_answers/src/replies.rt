@@ -1,12 +1,13 @@
-// The answers of a table: to a frame on a port, and to the two questions.
+// The answers of a table: to a frame on a port, to the two questions, and to a comparison with another table.
 // Those of one octet are a code or a number; who sees an address has a place and two numbers.
 ghost use mathlib.Core.Path.{_≡_};
 ghost use mathlib.Core.List.{[], _∷_};
 ghost use lib.ListN.{length};
 ghost use Rattle.octets.specs.Numbers.{fourOctets};
 ghost use Rattle.output.specs.Output.{outputAt, puts};
-ghost use Rattle.octet_answers.specs.Answers.{back, sightLong, replied, counted, numberOctets, placeOctets, seen};
+ghost use Rattle.octet_answers.specs.Answers.{back, sightLong, replied, counted, numberOctets, placeOctets, seen, comparedAnswer};
 use crate::WRONG_LENGTH;
+use compare::Compared;
 use naming::Number;
 use octet_description::put_two;
 use octets::low_of;
@@ -22,6 +23,8 @@ pub const REPLY: usize = 1;
 pub const COUNT: usize = 1;
 
 pub const SIGHT: usize = 13;
+
+pub const COMPARED: usize = 2;
 
 const RECORDED: u8 = 1;
 
@@ -114,5 +117,21 @@ pub fn answer_sight(answer: &mut [u8], sight: Sight) -> u8
             interface,
             port,
         } => answer_place(answer, place, interface, port),
+    }
+}
+
+// How many entries stand in the list (D3).
+pub fn answer_compared(answer: &mut [u8], c: Compared) -> u8
+    ensures { λ r. ⌜ back r (now (answer .exit) ∷ []) ≡ comparedAnswer c (now (answer .entry)) ⌝ }
+{
+    if answer.len() != COMPARED {
+        return WRONG_LENGTH;
+    }
+    match c {
+        Compared::Refused(n) => n,
+        Compared::Listed(n) => {
+            put_two(answer, 0, n);
+            0
+        }
     }
 }

@@ -15,6 +15,8 @@ use Rattle.place.proofs.store.Kinds as store-kinds
 use Rattle.place.proofs.store.Reads as store
 use Rattle.place.proofs.is_of.Kinds as is-of-kinds
 use Rattle.place.proofs.is_of.Reads as is-of
+use Rattle.place.proofs.place_of.Kinds as place-of-kinds
+use Rattle.place.proofs.place_of.Reads as place-of
 
 -- of the part that is handed back, the octets; where they lie in the caller's buffer is the borrow checker's to say
 pub lldpdu-at-sole : (κs : Lfts 1) (a : Dens κs lldpdu-at-kinds.ps) (r q : resT lldpdu-at-kinds.r κs .Denot) (x y : AtExit (endedOf 1 lldpdu-at-kinds.ps lldpdu-at-kinds.r) κs)
@@ -29,6 +31,9 @@ store-sole κs a r q x y e f = ap (λ (s : State). s .table) (e ∙ sym f)
 
 pub is-of-sole : Sole 2 is-of-kinds.ps is-of-kinds.r is-of.Post
 is-of-sole κs a r q x y e f = e ∙ sym f
+
+pub place-of-sole : Sole 2 place-of-kinds.ps place-of-kinds.r place-of.Post
+place-of-sole κs a r q x y e f = e ∙ sym f
 
 -- the buffer at exit is the second parameter of each call
 

@@ -2,7 +2,7 @@
 // Any place of any buffer can be named: past the last nothing is kept, and a buffer of another length is read as far as it goes and never written.
 ghost use mathlib.Core.Path.{_≡_};
 ghost use Rattle.ids.specs.Id.{idMeant};
-ghost use Rattle.place.specs.State.{putThere, free, state, lldpduIn, keep, recordIs, isFrom, ident};
+ghost use Rattle.place.specs.State.{putThere, free, state, lldpduIn, keep, recordIs, isFrom, ident, find};
 use ids::IdPart;
 use ids::same_id;
 use lldpdu::chassis_of;
@@ -127,4 +127,16 @@ pub fn is_of(
         return false;
     }
     is_from(lldpdu_at(buffer, i, length), text, chassis, port)
+}
+
+// The place of a record with this identity, or PLACES where it is new (N2).
+pub fn place_of(t: Table, buffer: &[u8], p: u8, text: &[u8], chassis: IdPart, port: IdPart) -> usize
+    ensures { λ r. ⌜ r ≡ find (state t (now (buffer .entry))) (ident p (idMeant (now (text .entry)) chassis) (idMeant (now (text .entry)) port)) ⌝ }
+{
+    for i in 0..PLACES {
+        if is_of(buffer, i, t.length[i], t.port[i], p, text, chassis, port) {
+            return i;
+        }
+    }
+    PLACES
 }

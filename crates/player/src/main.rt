@@ -1,16 +1,14 @@
-// player: replays a capture into a new table and prints what the table then holds, or `refused ` and the number (J3).
-// Its arguments are the capture (`-` is standard input), the port, the limit in frames (any word that is no number: all) and, for progress, the word `progress`.
-mod play;
-mod progress;
-mod show;
-
+// player: replays a capture into a new table and prints what the table then holds (J3); or into two, and prints what changed between them (J4); or the refusal.
+// Its arguments are the capture (`-` is standard input), the port, the limit in frames (any word that is no number: all), for progress the word `progress`
+// (any other: none), and the limit of the second look where there is one.
 use arguments::number_in;
 use libc::STDERR_FILENO;
 use libc::STDIN_FILENO;
+use play::Look;
+use play::Played;
 use play::play;
-use progress::Progress;
-use progress::nothing_read;
-use show::show;
+use show::show_changes;
+use show::show_table;
 use table::OCTETS;
 use table::empty_table;
 use table::start;
@@ -30,10 +28,15 @@ fn number_at(i: usize) -> usize {
     number_in(&word[..n])
 }
 
-fn progress_at(i: usize) -> Progress {
+fn wants_progress(i: usize) -> bool {
     let mut word = io::buffer();
     let n = os::arg(i, &mut word);
-    nothing_read(same(&word[..n], b"progress"))
+    same(&word[..n], b"progress")
+}
+
+// The number of the last word is 5.
+fn is_compared() -> bool {
+    os::arg_count() > 5
 }
 
 // A line of what failed; on standard error where nobody looks for it.
@@ -50,33 +53,70 @@ fn open(name: &[u8]) -> i32 {
     os::open_read(name)
 }
 
-// The open file, from its first octet to the last line.
-fn run(fd: i32) {
-    let mut buffer = table_buffer();
-    let t = start(empty_table(), &mut buffer).table;
-    let p = play(
+fn open_at(i: usize) -> i32 {
+    let mut word = io::buffer();
+    let n = os::arg(i, &mut word);
+    open(&word[..n])
+}
+
+// A look from a new table on.
+fn new_look(buffer: &mut [u8], limit: usize) -> Look {
+    let started = start(empty_table(), buffer);
+    let table = started.table;
+    Look {
+        table: table,
+        limit: limit,
+    }
+}
+
+fn second_limit() -> usize {
+    if is_compared() { number_at(5) } else { 0 }
+}
+
+// From the first octet of the open file to the last; each look has a buffer for its table.
+fn play_all(fd: i32, before: &mut [u8], after: &mut [u8]) -> Played {
+    let first = new_look(before, number_at(3));
+    let second = new_look(after, second_limit());
+    play(
         fd,
-        t,
-        &mut buffer,
         number_at(2),
-        number_at(3),
-        progress_at(4),
-    );
+        first,
+        before,
+        second,
+        after,
+        wants_progress(4),
+    )
+}
+
+fn is_shown(p: Played, before: &[u8], after: &[u8]) -> bool {
+    let first = p.first;
+    let second = p.second;
+    if is_compared() {
+        return show_changes(first, before, second, after);
+    }
+    show_table(first, before)
+}
+
+// The lines, or what failed.
+fn tell(p: Played, before: &[u8], after: &[u8]) {
     if !p.is_read {
         fail(b"the capture cannot be read\n");
         return;
     }
-    let answer = p.answer;
-    let table = p.table;
-    if !show(answer, table, &buffer) {
+    if !is_shown(p, before, after) {
         fail(b"standard output cannot be written\n");
     }
 }
 
+fn run(fd: i32) {
+    let mut before = table_buffer();
+    let mut after = table_buffer();
+    let p = play_all(fd, &mut before, &mut after);
+    tell(p, &before, &after);
+}
+
 fn main() {
-    let mut word = io::buffer();
-    let n = os::arg(1, &mut word);
-    let fd = open(&word[..n]);
+    let fd = open_at(1);
     if fd < 0 {
         fail(b"the capture cannot be opened\n");
         return;

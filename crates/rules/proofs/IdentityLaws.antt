@@ -1,7 +1,7 @@
 -- The test for one identity is equality.
 -- `same-true` and `same-self` pass between the two.
 use Prim.Native.Nat.{ℕ}
-use mathlib.Core.Path.{_≡_, refl}
+use mathlib.Core.Path.{_≡_, refl, sym, _∙_}
 use mathlib.Core.List.{[], _∷_}
 use mathlib.Core.Bool.{Bool, true, false}
 use native.Mathlib.Omega.{arith}
@@ -43,3 +43,10 @@ differ-sym a b e = go (same b a) refl
     go : (x : Bool) → same b a ≡ x → same b a ≡ false
     go true d = absurd (clash (same a b) (rw (same-true b a d) (same-self a)) e)
     go false d = d
+
+pub same-sym : (a b : Ident) → same a b ≡ same b a
+same-sym a b = go (same a b) refl
+  where
+    go : (x : Bool) → same a b ≡ x → same a b ≡ same b a
+    go true e = rw (same-true a b e)
+    go false e = e ∙ sym (differ-sym a b e)

@@ -6,3 +6,4 @@ pub mod SharesLaws
 pub mod FrameLaws
 pub mod PlacesLaws
 pub mod TabLaws
+pub mod RecordsLaws

@@ -9,9 +9,11 @@ use twin::rng::Rng;
 use crate::due;
 use crate::exports::Export;
 use crate::lent::Lent;
+use crate::octets::number;
+use crate::sizes::ENTRY_OCTETS;
 
 /// No refusal number is above this one.
-const LAST_REFUSAL: usize = 13;
+const LAST_REFUSAL: usize = 14;
 
 /// A refusal that hardly ever is due would hardly be compared.
 const FEWEST: usize = 40;
@@ -73,15 +75,21 @@ impl Bench {
     fn count(&mut self, export: Export, refusal: Refusal, changed: &[(usize, Vec<u8>)]) {
         let count = &mut self.counts[export as usize];
         count.refusals[usize::from(refusal)] += 1;
-        // The verdict of a reader, or else the first octet of the answer, which stands last.
-        let answer = match (export, changed) {
-            (Export::Judge | Export::Read | Export::ReadLldpdu, [(_, answer), ..]) => answer[2],
+        // The verdict of a reader, the kind of each entry, or else the first octet of the answer,
+        // which stands last.
+        let answers = match (export, changed) {
+            (Export::Judge | Export::Read | Export::ReadLldpdu, [(_, answer), ..]) => {
+                vec![answer[2]]
+            }
+            (Export::Compare, [(_, list), (_, answer)]) => kinds(list, answer),
             (Export::FrameOnPort | Export::HowMany | Export::WhoSees, [.., (_, answer)]) => {
-                answer[0]
+                vec![answer[0]]
             }
             _ => return,
         };
-        count.answers[usize::from(answer)] += 1;
+        for answer in answers {
+            count.answers[usize::from(answer)] += 1;
+        }
     }
 
     /// A line for each export. False where an answer or a refusal was compared too rarely.
@@ -147,7 +155,16 @@ fn answers_of(export: Export) -> &'static [&'static str] {
             &["holds 0:", "holds 1:", "holds 2:", "holds 3:", "holds 4:", "holds 5:", "holds 6:"]
         }
         Export::WhoSees => &["nobody", "a place"],
+        Export::Compare => &["no entries", "entries: left", "joined", "seconds", "altered"],
         _ => &[],
+    }
+}
+
+/// The kinds of the entries (D3), or 0 where there is none.
+fn kinds(list: &[u8], answer: &[u8]) -> Vec<u8> {
+    match number(answer) {
+        0 => vec![0],
+        count => list.chunks(ENTRY_OCTETS).take(count.into()).map(|entry| entry[0]).collect(),
     }
 }
 

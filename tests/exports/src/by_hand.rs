@@ -49,6 +49,7 @@ pub fn run(bench: &mut Bench) {
     bench.section("typed by hand", 0);
     read_and_written(bench);
     kept(bench);
+    changed(bench);
 }
 
 fn read_and_written(bench: &mut Bench) {
@@ -144,4 +145,96 @@ fn kept(bench: &mut Bench) {
         hold(bench, "frame on a port", &cell.slices[6], &[reply]);
         cell.slices.truncate(BUFFER + 1);
     }
+}
+
+/// A frame of a neighbour; of source, chassis and port ID the last octet is told.
+fn heard(port: usize, source: &str, chassis: &str, port_id: &str, seconds: &str) -> Call {
+    let header = format!("FFFFFFFFFFFF 0200000000{source} 88CC");
+    let three = format!("020704 0200000000{chassis} 040207{port_id} 0602{seconds}");
+    Call::Frame { port, frame: octets(&format!("{header}{three}{CATEGORY}{NUMBER}0000")) }
+}
+
+/// Two looks at one table, and a third at a table with the records of the second in other places.
+fn changed(bench: &mut Bench) {
+    let mut rng = bench.section("typed by hand", 0);
+    let mut after = |bench: &mut Bench, cell: &Cell, calls: &[Call]| {
+        let mut cell = cell.clone();
+        for call in calls {
+            let refusal = cell.call(bench, &mut rng, call);
+            hold(bench, "refusal in a history", &[refusal], &[0]);
+        }
+        cell
+    };
+    let empty = Cell::new();
+    // Chassis and port ID of the first are also on port 5, which is another record (N2).
+    let calls = [
+        heard(0, "A1", "01", "31", "0078"),
+        heard(0, "A1", "01", "32", "0078"),
+        heard(5, "A1", "01", "31", "0078"),
+        heard(9, "A2", "02", "31", "0078"),
+        heard(9, "A3", "03", "31", "012C"),
+    ];
+    let first = after(bench, &empty, &calls);
+    // The place that port 5 leaves is taken (N4). Then one is as before, one has another sender with
+    // the same seconds, one has other octets and other seconds; the last alone only lost seconds.
+    let calls = [
+        Call::Seconds(20),
+        Call::Lost { port: 5 },
+        heard(9, "A4", "04", "31", "0078"),
+        heard(0, "A1", "01", "31", "0078"),
+        heard(0, "A9", "01", "32", "0078"),
+        heard(9, "A2", "02", "31", "0203"),
+    ];
+    let second = after(bench, &first, &calls);
+    let calls = [
+        heard(9, "A3", "03", "31", "012C"),
+        Call::Seconds(20),
+        heard(9, "A4", "04", "31", "0078"),
+        heard(9, "A2", "02", "31", "0203"),
+        heard(0, "A9", "01", "32", "0078"),
+        heard(0, "A1", "01", "31", "0078"),
+    ];
+    let third = after(bench, &empty, &calls);
+    let looks = [
+        (&first, &second, "0401 0102 0403 0304 0202"),
+        (&second, &first, "0401 0102 0403 0304 0202"),
+        (&first, &third, "0403 0102 0402 0300 0201"),
+        (&third, &first, "0304 0101 0403 0401 0202"),
+        (&second, &third, ""),
+        (&third, &second, ""),
+        (&first, &first, ""),
+        (&empty, &first, "0200 0201 0202 0203 0204"),
+        (&first, &empty, "0100 0101 0102 0103 0104"),
+        (&empty, &empty, ""),
+    ];
+    let mut unfit = first.clone();
+    unfit.slices[0][0] = 10;
+    let unfit = [(&unfit, &second), (&second, &unfit), (&unfit, &unfit)];
+    for (first, second, entries) in looks {
+        let entries = octets(entries);
+        for length in (0..=entries.len() + 3).chain([160, 161]) {
+            let fits = length >= entries.len();
+            let typed = if fits { (0, &entries[..]) } else { (14, &[][..]) };
+            in_list(bench, first, second, length, typed);
+        }
+    }
+    for (first, second) in unfit {
+        for length in [0, 9, 10, 160] {
+            in_list(bench, first, second, length, (1, &[]));
+        }
+    }
+}
+
+/// What is typed is the refusal number and the entries; behind these, and with a refusal, each octet
+/// of the list stays.
+fn in_list(bench: &mut Bench, first: &Cell, second: &Cell, length: usize, typed: (u8, &[u8])) {
+    let (refusal, entries) = typed;
+    let written = [vec![0xEE; length], vec![0xEE; 2]];
+    let mut slices = [&first.slices, &second.slices, &written[..]].concat();
+    let said = bench.compare(Export::Compare, &mut slices, 0);
+    hold(bench, "refusal", &[said], &[refusal]);
+    let behind = vec![0xEE; length - entries.len()];
+    hold(bench, "list", &slices[10], &[entries, &behind].concat());
+    let answer = if refusal == 0 { [0, entries.len() as u8 / 2] } else { [0xEE; 2] };
+    hold(bench, "how many entries", &slices[11], &answer);
 }

@@ -1,14 +1,18 @@
-//! A cell: the table's five slices as octets, and the six calls on them.
-//! Each call is compared, and the slices are then what the export left.
+//! A cell: the table's five slices as octets, the six calls on them, and two cells compared.
+//! Each call is compared with the twin's, and the slices are then what the export left.
 
 use twin::reader::{Address, Refusal};
 use twin::rng::Rng;
-use twin::table::BUFFER_OCTETS;
+use twin::table::{BUFFER_OCTETS, PLACE_OCTETS};
 
 use crate::bench::Bench;
-use crate::due::BUFFER;
+use crate::due::{BUFFER, LIST};
 use crate::exports::Export;
+use crate::octets::number;
 use crate::sizes::*;
+
+/// How many octets of each slice a place has (X3).
+const WIDTHS: [usize; 5] = [1, 2, 2, ADDRESS_OCTETS, PLACE_OCTETS];
 
 #[derive(Clone)]
 pub struct Cell {
@@ -58,5 +62,37 @@ impl Cell {
         for call in calls {
             self.clone().call(bench, rng, call);
         }
+    }
+
+    /// What changed from this cell to the second, in a list of so many octets. Gives back how many
+    /// octets the entries have, where it was not refused.
+    pub fn compare(
+        &self,
+        bench: &mut Bench,
+        rng: &mut Rng,
+        second: &Cell,
+        list: usize,
+    ) -> Option<usize> {
+        let written = [list, COMPARED_OCTETS].map(|octets| rng.octets(octets));
+        let mut slices = [&self.slices, &second.slices, &written[..]].concat();
+        let refusal = bench.compare(Export::Compare, &mut slices, 0);
+        (refusal == 0).then(|| ENTRY_OCTETS * usize::from(number(&slices[LIST + 1])))
+    }
+
+    /// Copies a place to another one, whole.
+    pub fn copy_place(&mut self, from: usize, to: usize) {
+        for (slice, width) in self.slices.iter_mut().zip(WIDTHS) {
+            slice.copy_within(width * from..width * (from + 1), width * to);
+        }
+    }
+
+    /// The same records in other places: each place has what that one of the list had.
+    pub fn moved(&self, places: &[usize]) -> Cell {
+        let mut cell = self.clone();
+        for ((slice, from), width) in cell.slices.iter_mut().zip(&self.slices).zip(WIDTHS) {
+            let octets = places.iter().flat_map(|place| &from[width * place..][..width]);
+            *slice = octets.copied().collect();
+        }
+        cell
     }
 }

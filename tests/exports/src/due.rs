@@ -1,6 +1,7 @@
 //! What is due: the refusal number of a call and the slices as it leaves them (X2 to X6).
 //! The twin reads, writes and keeps the table; its answers are held as octets.
 
+use twin::changes::{compare, Look};
 use twin::reader::{read_frame, read_lldpdu, Address, Refusal};
 use twin::writer::write;
 
@@ -18,6 +19,9 @@ const MOST_COUNTED: usize = 65_535;
 /// Where the buffer stands among the table's slices, and what comes behind them.
 pub const BUFFER: usize = 4;
 const BEHIND_TABLE: usize = 5;
+
+/// Where the list stands among the slices of compare.
+pub const LIST: usize = 2 * BEHIND_TABLE;
 
 /// The slices that the call changes, by their numbers. A refusal changes none (X4).
 type Changed = Vec<(usize, Vec<u8>)>;
@@ -57,8 +61,22 @@ pub fn answer(export: Export, slices: &[Vec<u8>], number: usize) -> Result<Chang
             output[..written.len()].copy_from_slice(&written);
             Ok(vec![(2, output), (3, two(written.len()).to_vec())])
         }
+        Export::Compare => on_two_tables(slices),
         _ => on_table(export, slices, number),
     }
+}
+
+fn on_two_tables(slices: &[Vec<u8>]) -> Result<Changed, Refusal> {
+    let (first, behind) = slices.split_at(BEHIND_TABLE);
+    let (second, behind) = behind.split_at(BEHIND_TABLE);
+    let [first_table, second_table] = [first, second].map(table_of);
+    let mut list = behind[0].clone();
+    let entries = compare(
+        Look { table: &first_table, buffer: &first[BUFFER] },
+        Look { table: &second_table, buffer: &second[BUFFER] },
+        &mut list,
+    )?;
+    Ok(vec![(LIST, list), (LIST + 1, two(entries).to_vec())])
 }
 
 fn on_table(export: Export, slices: &[Vec<u8>], number: usize) -> Result<Changed, Refusal> {

@@ -22,14 +22,22 @@ macro_rules! call {
 /// A slice that a call takes: its name, and its number of octets where that is fixed (X2).
 pub type Slice = (&'static str, Option<usize>);
 
-/// The table's slices. The length of the buffer is the table's to judge (X2).
-const TABLE: [Slice; 5] = [
-    ("ports", Some(PORTS_OCTETS)),
-    ("seconds", Some(NUMBERS_OCTETS)),
-    ("lengths", Some(NUMBERS_OCTETS)),
-    ("senders", Some(SENDERS_OCTETS)),
-    ("buffer", None),
-];
+const TABLE: [Slice; 5] = table(["ports", "seconds", "lengths", "senders", "buffer"]);
+
+/// Those of the second table, where two are compared.
+const SECOND: [Slice; 5] =
+    table(["second ports", "second seconds", "second lengths", "second senders", "second buffer"]);
+
+/// The slices of a table. The length of the buffer is the table's to judge (X2).
+const fn table([ports, seconds, lengths, senders, buffer]: [&'static str; 5]) -> [Slice; 5] {
+    [
+        (ports, Some(PORTS_OCTETS)),
+        (seconds, Some(NUMBERS_OCTETS)),
+        (lengths, Some(NUMBERS_OCTETS)),
+        (senders, Some(SENDERS_OCTETS)),
+        (buffer, None),
+    ]
+}
 
 #[derive(Clone, Copy, Debug, PartialEq, Eq)]
 pub enum Export {
@@ -43,12 +51,13 @@ pub enum Export {
     LinkLost,
     HowMany,
     WhoSees,
+    Compare,
 }
 
 use Export::*;
 
 impl Export {
-    pub const ALL: [Export; 10] = [
+    pub const ALL: [Export; 11] = [
         Judge,
         Read,
         ReadLldpdu,
@@ -59,6 +68,7 @@ impl Export {
         LinkLost,
         HowMany,
         WhoSees,
+        Compare,
     ];
 
     /// Its name in the rules, and the refusals that it can give (X1).
@@ -74,6 +84,7 @@ impl Export {
             LinkLost => ("link lost", &[1, 2]),
             HowMany => ("how many", &[1, 2]),
             WhoSees => ("who sees", &[1]),
+            Compare => ("compare", &[1, 14]),
         }
     }
 
@@ -88,6 +99,10 @@ impl Export {
             Write => {
                 let free = [("text", None), ("output", None)];
                 return [&[description], &free[..], &[answer(WRITTEN_OCTETS)]].concat();
+            }
+            Compare => {
+                let written = [("list", None), answer(COMPARED_OCTETS)];
+                return [&TABLE, &SECOND, &written[..]].concat();
             }
             Start | SecondsPassed | LinkLost => &[],
             FrameOnPort => &[("frame", None), answer(REPLY_OCTETS)],
@@ -113,6 +128,7 @@ impl Export {
             HowMany => call!(tambolune_how_many, lent, [a, b, c, d, e], number, [f]),
             // The address stands before the start.
             WhoSees => call!(tambolune_who_sees, lent, [a, b, c, d, e, f], number, [g]),
+            Compare => call!(tambolune_compare, lent, [a, b, c, d, e, f, g, h, i, j, k, l]),
         }
     }
 }

@@ -9,6 +9,7 @@ use twin::writer::{write, Description, Part};
 use crate::bench::Bench;
 use crate::damage;
 use crate::exports::Export;
+use crate::octets::number;
 use crate::sizes::{
     DESCRIPTION_OCTETS, HEADER_OCTETS, JUDGED_OCTETS, VERDICT_OCTETS, WRITTEN_OCTETS,
 };
@@ -150,7 +151,7 @@ fn write_again(
     let due = write(&own.expect("each string has its part"), &text, room);
     let said = match refusal {
         0 => {
-            let written = usize::from(u16::from_be_bytes([answer[0], answer[1]]));
+            let written = usize::from(number(&answer));
             Ok(output[..written].to_vec())
         }
         number => Err(number),

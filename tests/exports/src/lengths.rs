@@ -7,8 +7,9 @@ use twin::table::BUFFER_OCTETS;
 use crate::agents::{address, any_frame};
 use crate::bench::Bench;
 use crate::cell::Cell;
-use crate::due::BUFFER;
+use crate::due::{BUFFER, LIST};
 use crate::exports::Export;
+use crate::looks::any_list;
 use crate::sequences::{any_port, any_seconds, any_start};
 use crate::sizes::HEADER_OCTETS;
 
@@ -83,11 +84,14 @@ fn arguments(rng: &mut Rng, export: Export, among: &Among) -> (Vec<Vec<u8>>, usi
             slices[2] = rng.octets(room);
         }
         _ => {
-            let cell = &among.reached[rng.below(among.reached.len())];
-            slices[..=BUFFER].clone_from_slice(&cell.slices);
-            // Sometimes a table that is not fit, and then 1 is due for that.
-            if rng.once_in(8) {
-                slices[BUFFER].resize(BUFFER_OCTETS - 1, 0);
+            // One table, or the two that are compared: no call takes five slices behind its tables.
+            for table in slices.chunks_exact_mut(BUFFER + 1) {
+                let cell = &among.reached[rng.below(among.reached.len())];
+                table.clone_from_slice(&cell.slices);
+                // Sometimes a table that is not fit, and then 1 is due for that.
+                if rng.once_in(8) {
+                    table[BUFFER].resize(BUFFER_OCTETS - 1, 0);
+                }
             }
         }
     }
@@ -99,6 +103,11 @@ fn arguments(rng: &mut Rng, export: Export, among: &Among) -> (Vec<Vec<u8>>, usi
         Export::WhoSees => {
             slices[BUFFER + 1] = address(rng).to_vec();
             any_start(rng)
+        }
+        Export::Compare => {
+            let list = any_list(rng);
+            slices[LIST] = rng.octets(list);
+            0
         }
         Export::SecondsPassed => any_seconds(rng),
         _ => any_port(rng),

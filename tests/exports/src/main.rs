@@ -12,6 +12,7 @@ mod exports;
 mod frames;
 mod lengths;
 mod lent;
+mod looks;
 mod octets;
 mod parts;
 mod raw;
@@ -42,6 +43,7 @@ fn main() -> ExitCode {
     let descriptions = writes::run(&mut bench);
     let reached = sequences::run(&mut bench, &stock);
     replay::run(&mut bench);
+    looks::run(&mut bench, &reached, &stock);
     spoils::run(&mut bench, &reached, &stock);
     let among =
         Among { reached: &reached, frames: &frames, descriptions: &descriptions, stock: &stock };

@@ -10,7 +10,7 @@ use crate::sizes::SIGHT_OCTETS;
 
 /// The table that the slices mean (X3). They have their right lengths.
 pub fn table_of(slices: &[Vec<u8>]) -> Table {
-    let two = |octets: &[u8], i: usize| u16::from_be_bytes([octets[2 * i], octets[2 * i + 1]]);
+    let two = |octets: &[u8], i: usize| number(&octets[2 * i..]);
     let mut table = Table::default();
     for i in 0..PLACES {
         table.port[i] = slices[0][i];
@@ -43,6 +43,11 @@ pub fn verdict(reading: &Reading) -> [u8; 3] {
 
 pub fn two(number: usize) -> [u8; 2] {
     u16::try_from(number).expect("no case has a longer LLDPDU").to_be_bytes()
+}
+
+/// The number that the first two octets are.
+pub fn number(octets: &[u8]) -> u16 {
+    u16::from_be_bytes([octets[0], octets[1]])
 }
 
 pub fn reply_octet(reply: Reply) -> u8 {

@@ -2,7 +2,7 @@
 //! What the twin does to numbers and octets of a table is done to the slices here (X3).
 
 use twin::events::{events, Event, Trial};
-use twin::table::{octets_of, BUFFER_OCTETS};
+use twin::table::BUFFER_OCTETS;
 
 use crate::bench::Bench;
 use crate::cell::{Call, Cell};
@@ -97,12 +97,7 @@ impl Desk {
                 slices[3][6 * place..6 * place + 6].copy_from_slice(&sender);
             }
             Event::SetOctet { at, octet } => slices[BUFFER][at] = octet,
-            Event::CopyPlace { from, to } => {
-                for (slice, width) in slices.iter_mut().zip([1, 2, 2, 6]) {
-                    slice.copy_within(width * from..width * (from + 1), width * to);
-                }
-                slices[BUFFER].copy_within(octets_of(from), octets_of(to).start);
-            }
+            Event::CopyPlace { from, to } => self.cell.copy_place(from, to),
             _ => unreachable!("{event:?} is no edit"),
         }
         self.lend(now_lent);

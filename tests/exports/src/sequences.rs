@@ -31,7 +31,7 @@ pub fn run(bench: &mut Bench, stock: &[Vec<u8>]) -> Vec<Cell> {
         cell.call(bench, &mut rng, &Call::HowMany { port: 0 });
         cell.call(bench, &mut rng, &Call::Start);
         match sequence % 4 {
-            1 => fill(bench, &mut rng, &mut cell),
+            1 => fill(bench, &mut rng, &mut cell, 0),
             2 => fill_ports(bench, &mut rng, &mut cell),
             _ => {}
         }
@@ -49,11 +49,11 @@ pub fn run(bench: &mut Bench, stock: &[Vec<u8>]) -> Vec<Cell> {
     reached
 }
 
-/// All places are used, four on each port, of two chassis.
-fn fill(bench: &mut Bench, rng: &mut Rng, cell: &mut Cell) {
+/// All places are used, four on each port, of two chassis from this one on.
+pub fn fill(bench: &mut Bench, rng: &mut Rng, cell: &mut Cell, chassis: usize) {
     for place in 0..PLACES {
         let (port, number) = (place % PORTS, place / PORTS);
-        let frame = frame(rng, number / 3 + port, number, 65_535);
+        let frame = frame(rng, chassis + number / 3 + port, number, 65_535);
         cell.call(bench, rng, &Call::Frame { port, frame });
     }
 }
@@ -69,7 +69,8 @@ fn fill_ports(bench: &mut Bench, rng: &mut Rng, cell: &mut Cell) {
     }
 }
 
-fn any_call(rng: &mut Rng, ports: usize, stock: &[Vec<u8>]) -> Call {
+/// Any of the six calls, mostly on the first so many ports.
+pub fn any_call(rng: &mut Rng, ports: usize, stock: &[Vec<u8>]) -> Call {
     let no_port = rng.pick(&NO_PORTS);
     let port = if rng.once_in(25) { no_port } else { rng.below(ports) };
     match rng.below(200) {

@@ -14,6 +14,11 @@ pub const WRITTEN_OCTETS: usize = 2;
 pub const REPLY_OCTETS: usize = 1;
 pub const COUNT_OCTETS: usize = 1;
 pub const SIGHT_OCTETS: usize = 13;
+pub const COMPARED_OCTETS: usize = 2;
+pub const ENTRY_OCTETS: usize = 2;
+
+/// A list that is never too short: an entry for each place of both tables (D4).
+pub const LIST_OCTETS: usize = ENTRY_OCTETS * 2 * PLACES;
 
 /// The frame's octets before the LLDPDU (F1).
 pub const HEADER_OCTETS: usize = 14;
@@ -33,6 +38,8 @@ extern "C" {
     fn tambolune_size_reply() -> usize;
     fn tambolune_size_count() -> usize;
     fn tambolune_size_sight() -> usize;
+    fn tambolune_size_compared() -> usize;
+    fn tambolune_size_entry() -> usize;
     fn tambolune_size_header() -> usize;
 }
 
@@ -55,6 +62,8 @@ pub fn compare() -> Result<usize, (&'static str, usize, usize)> {
             ("reply", tambolune_size_reply(), REPLY_OCTETS),
             ("count", tambolune_size_count(), COUNT_OCTETS),
             ("sight", tambolune_size_sight(), SIGHT_OCTETS),
+            ("compared", tambolune_size_compared(), COMPARED_OCTETS),
+            ("entry", tambolune_size_entry(), ENTRY_OCTETS),
             ("header", tambolune_size_header(), HEADER_OCTETS),
         ]
     };

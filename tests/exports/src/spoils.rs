@@ -8,6 +8,7 @@ use crate::agents::{address, any_frame};
 use crate::bench::Bench;
 use crate::cell::{Call, Cell};
 use crate::due::BUFFER;
+use crate::looks::any_list;
 use crate::octets::table_of;
 use crate::sequences::{any_port, any_seconds, any_start};
 
@@ -40,13 +41,13 @@ pub fn run(bench: &mut Bench, reached: &[Cell], stock: &[Vec<u8>]) {
     for _ in 0..ONE_OCTET_TABLES {
         let mut cell = reached[rng.below(reached.len())].clone();
         one_octet(&mut rng, &mut cell);
-        each_call(bench, &mut rng, &cell, stock);
+        each_call(bench, &mut rng, &cell, reached, stock);
     }
     let mut rng = bench.section("places that are copied", COPIES);
     for _ in 0..COPIED_TABLES {
         let mut cell = reached[rng.below(reached.len())].clone();
         copy(&mut rng, &mut cell);
-        each_call(bench, &mut rng, &cell, stock);
+        each_call(bench, &mut rng, &cell, reached, stock);
     }
     let mut rng = bench.section("buffers of other lengths", LENGTHS);
     for cell in reached.iter().step_by(6) {
@@ -54,7 +55,7 @@ pub fn run(bench: &mut Bench, reached: &[Cell], stock: &[Vec<u8>]) {
             let mut cell = cell.clone();
             let fill = rng.pick(&[0, 0, 1]);
             cell.slices[BUFFER].resize(length, fill);
-            each_call(bench, &mut rng, &cell, stock);
+            each_call(bench, &mut rng, &cell, reached, stock);
         }
     }
     let mut rng = bench.section("tables of any octets", ANY);
@@ -69,11 +70,11 @@ pub fn run(bench: &mut Bench, reached: &[Cell], stock: &[Vec<u8>]) {
                 *slice = if round % 2 == 0 { any } else { vec![octet; slice.len()] };
             }
         }
-        each_call(bench, &mut rng, &cell, stock);
+        each_call(bench, &mut rng, &cell, reached, stock);
     }
 }
 
-fn each_call(bench: &mut Bench, rng: &mut Rng, cell: &Cell, stock: &[Vec<u8>]) {
+fn each_call(bench: &mut Bench, rng: &mut Rng, cell: &Cell, reached: &[Cell], stock: &[Vec<u8>]) {
     let calls = [
         Call::Frame { port: any_port(rng), frame: any_frame(rng, stock) },
         Call::Seconds(any_seconds(rng)),
@@ -83,6 +84,12 @@ fn each_call(bench: &mut Bench, rng: &mut Rng, cell: &Cell, stock: &[Vec<u8>]) {
         Call::Start,
     ];
     cell.try_each(bench, rng, &calls);
+    // Beside a fit table, as the first and as the second; 1 goes before 14 (D4).
+    let other = &reached[rng.below(reached.len())];
+    for (first, second) in [(cell, other), (other, cell)] {
+        let list = any_list(rng);
+        first.compare(bench, rng, second, list);
+    }
 }
 
 /// The place of the octet, in any of the slices; in the buffer mostly one that an LLDPDU has.
@@ -123,9 +130,7 @@ fn copy(rng: &mut Rng, cell: &mut Cell) {
     }
     for _ in 0..rng.pick(&[1, 1, 2, 5]) {
         let (from, to) = (rng.pick(&used), rng.below(PLACES));
-        for (slice, width) in cell.slices.iter_mut().zip([1, 2, 2, 6, PLACE_OCTETS]) {
-            slice.copy_within(width * from..width * (from + 1), width * to);
-        }
+        cell.copy_place(from, to);
         match rng.below(4) {
             0 => {}
             1 => cell.slices[0][to] = rng.pick(&[0, 1, 2]),

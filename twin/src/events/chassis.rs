@@ -100,7 +100,7 @@ pub fn much_alike() -> [[Id; 6]; 3] {
 }
 
 /// Agents that are much like each other, at most six in a crowd.
-fn crowds() -> [Vec<Agent>; 5] {
+pub fn crowds() -> [Vec<Agent>; 5] {
     // What the chassis has more, the port ID has fewer; and each has the subtype of the other.
     let pairs = [
         (local(b"AA"), (7, &b"AAAA"[..])),

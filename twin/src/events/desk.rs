@@ -2,6 +2,7 @@
 //! It does what an event says and tells the answer in the words of the expected text.
 
 use super::{Event, Trial};
+use crate::changes::Look;
 use crate::digest::digest;
 use crate::frames::or_refused;
 use crate::table::{
@@ -26,8 +27,8 @@ pub const WRONG_LENGTHS: [usize; 7] = [
 #[derive(Clone)]
 pub struct Desk {
     pub table: Table,
-    store: Vec<u8>,
-    lent: usize,
+    pub store: Vec<u8>,
+    pub lent: usize,
     kept: (Table, Vec<u8>),
 }
 
@@ -41,6 +42,11 @@ impl Desk {
     /// The buffer that is given to the calls.
     pub fn buffer(&self) -> &[u8] {
         &self.store[..self.lent]
+    }
+
+    /// The table with that buffer.
+    pub fn look(&self) -> Look<'_> {
+        Look { table: &self.table, buffer: self.buffer() }
     }
 
     /// The line of an event without the number of its record, or none for a preparation.

@@ -49,7 +49,7 @@ impl Maker {
 
     /// Two on every port, then any of them until the common places are taken, then one more for
     /// each port (N12).
-    fn fill_all_places(&mut self) {
+    pub fn fill_all_places(&mut self) {
         for port in all_ports() {
             self.hear_somebody_new(port);
             self.hear_somebody_new(port);
@@ -352,7 +352,7 @@ impl Maker {
     }
 
     /// A port holds six, and common places are left: a seventh would break one condition alone.
-    fn end_with_six(&mut self) {
+    pub fn end_with_six(&mut self) {
         let (port, others) = self.one_and_the_others();
         for &other in &others {
             if self.desk.table.common_taken() > COMMON - MOST {
@@ -366,7 +366,7 @@ impl Maker {
     }
 
     /// The common places are taken, others are free, and some port holds two to five.
-    fn end_with_the_common_taken(&mut self) {
+    pub fn end_with_the_common_taken(&mut self) {
         let (port, others) = self.one_and_the_others();
         self.call(Event::Lost { port });
         self.take_the_common(&others);

@@ -103,7 +103,7 @@ impl Maker {
     }
 
     /// Edits that break the condition of the way and no other; none where they are not found.
-    fn edits(&mut self, way: Way) -> Option<Vec<Event>> {
+    pub fn edits(&mut self, way: Way) -> Option<Vec<Event>> {
         (0..PROPOSALS).find_map(|_| {
             let edits = self.proposal(way)?;
             let mut desk = self.desk.clone();
