@@ -117,6 +117,8 @@ static void print_place(const tambolune_table *of, size_t place)
     print_id(lldpdu, reading.description.chassis);
     printf(", port ID ");
     print_id(lldpdu, reading.description.port_id);
+    printf(", sender ");
+    print_octets(tambolune_place_sender(of, place), TAMBOLUNE_ADDRESS_OCTETS);
     printf("\n");
 }
 

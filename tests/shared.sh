@@ -66,7 +66,7 @@ said() {
     count=$((count + 1))
 }
 
-# fails NAME LINE WORDS..: status 2, nothing on standard output, and on standard error the line, where one is due, and the usage.
+# fails NAME LINE WORDS..: status 2, nothing on standard output, and on standard error the line and the usage.
 fails() {
     name=$1
     echo "$2" >"$work/due"
@@ -76,6 +76,18 @@ fails() {
         wrong "$name"
     fi
     count=$((count + 1))
+}
+
+# locked CAPTURE WORDS..: a copy of the capture that may not be read fails. As root every file may be read, and then this is left out.
+locked() {
+    if [ "$(id -u)" -eq 0 ]; then
+        echo "$verb: as root every file may be read, so none that may not is tried"
+        return
+    fi
+    cp "$1" "$work/locked"
+    chmod 0 "$work/locked"
+    shift
+    fails 'a file that may not be read' "tambolune: $work/locked cannot be read" "$work/locked" "$@"
 }
 
 # breaks NAME LINE WORDS..: status 2, nothing on standard output, and the line alone on standard error.

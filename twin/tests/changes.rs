@@ -365,7 +365,7 @@ fn the_changes_turn_the_first_records_into_the_second_and_are_never_more_than_bo
         assert_eq!(count == 0, before == after);
     });
     println!("{pairs} fit pairs");
-    assert!(pairs >= 1_500);
+    assert!(pairs >= 2_000);
 }
 
 /// D4: 8n, where nobody is known in both of two full tables.

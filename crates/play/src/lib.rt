@@ -22,7 +22,7 @@ use replay::feed;
 use replay::finish;
 use replay::wants_more;
 
-// What a look begins with: its table, and the limit of its replay. One that is not wanted has the limit 0, and so wants the file header alone.
+// What a look begins with: its table, and the limit of its replay.
 pub struct Look {
     pub table: Table,
     pub limit: usize,

@@ -1,6 +1,5 @@
-// player: replays a capture into a new table and prints what the table then holds (J3); or into two, and prints what changed between them (J4); or the refusal.
-// Its arguments are the capture (`-` is standard input), the port, the limit in frames (any word that is no number: all), for progress the word `progress`
-// (any other: none), and the limit of the second look where there is one.
+// player: replays a capture and prints what the table then holds (J3), or replays it up to two limits and prints what changed between the two tables (J4).
+// Its arguments are the capture (`-` is standard input), the port, the limit in frames (any word that is no number: all), for progress the word `progress` (any other: none), and the second limit, where there is one.
 use arguments::number_in;
 use libc::STDERR_FILENO;
 use libc::STDIN_FILENO;
@@ -34,7 +33,7 @@ fn wants_progress(i: usize) -> bool {
     same(&word[..n], b"progress")
 }
 
-// The number of the last word is 5.
+// Where there is a fifth word there are two looks.
 fn is_compared() -> bool {
     os::arg_count() > 5
 }
@@ -69,6 +68,7 @@ fn new_look(buffer: &mut [u8], limit: usize) -> Look {
     }
 }
 
+// A second look that is not wanted stops behind the file header (C6).
 fn second_limit() -> usize {
     if is_compared() { number_at(5) } else { 0 }
 }

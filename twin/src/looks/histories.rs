@@ -6,7 +6,7 @@ use crate::events::desk::Desk;
 use crate::events::Event;
 use crate::table::{octets_of, LAST_PORT, PLACES, PORTS};
 
-const HISTORIES: usize = 40;
+const HISTORIES: usize = 48;
 const LOOKS: usize = 20;
 
 /// How many tables have their records in other places, and how many are full.
