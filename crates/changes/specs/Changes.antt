@@ -12,6 +12,7 @@ use Rattle.rules.specs.Model.{Rec, Places}
 use Rattle.rules.specs.Records.{Records}
 use Rattle.changes.specs.Entries.{Entry, leftKind, joinedKind, secondsKind, alteredKind}
 
+-- kinds 1, 3, 2 and 4: it left; its record has so many seconds left now; its record is this one, and there was none; its record is this one, and there was another
 pub data Change : Type 0 where
   leaves : Ident → Change
   lasts : Ident → ℕ → Change
