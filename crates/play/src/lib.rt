@@ -7,8 +7,10 @@ ghost use Rattle.place.specs.State.{state};
 ghost use Rattle.replay.specs.Place.{roomOctets};
 ghost use Rattle.play.specs.Reading.{standing, Begins, GoesOn, ReadsOn, Ended, Plays};
 
+mod looks;
 mod progress;
 
+pub use looks::between;
 use numbers::Table;
 use progress::Progress;
 use progress::end;

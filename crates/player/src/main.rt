@@ -1,12 +1,15 @@
 // player: replays a capture and prints what the table then holds (J3), or replays it up to two limits and prints what changed between the two tables (J4).
 // Its arguments are the capture (`-` is standard input), the port, the limit in frames (any word that is no number: all), for progress the word `progress` (any other: none), and the second limit, where there is one.
+mod entries;
+mod show;
+
 use arguments::number_in;
+use entries::show_changes;
 use libc::STDERR_FILENO;
 use libc::STDIN_FILENO;
 use play::Look;
 use play::Played;
 use play::play;
-use show::show_changes;
 use show::show_table;
 use table::OCTETS;
 use table::empty_table;

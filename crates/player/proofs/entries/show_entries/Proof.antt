@@ -1,10 +1,10 @@
--- `show::entries::show_entries` meets its contract: the entries are counted, so the loop ends.
+-- `player::entries::show_entries` meets its contract: the entries are counted, so the loop ends.
 -- Nothing else is claimed of a program that prints.
 use Prim.Native.Nat.{_*_, _-_, _≤_}
 use Rattle.numbers.specs.Sizes.{places}
 use borrow.Author.Needs.{needs}
-use Rattle.show.proofs.entries.show_entries.Statement.{statement}
-use Rattle.show.proofs.entries.show_entries.Tie as tie
+use Rattle.player.proofs.entries.show_entries.Statement.{statement}
+use Rattle.player.proofs.entries.show_entries.Tie as tie
 
 abbrev Inv-loop : tie.InvT-loop
 Inv-loop n list first before second after k₀ k = k ≤ 2 * places

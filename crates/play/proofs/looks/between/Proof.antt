@@ -1,9 +1,9 @@
--- `show::entries::between` meets its contract: the definition goes by the two answers, as the code does.
+-- `play::looks::between` meets its contract: the definition goes by the two answers, as the code does.
 -- Where neither is a refusal it is what compare ensures.
 use borrow.Author.Needs.{needs}
-use Rattle.show.specs.Looks.{between}
-use Rattle.show.proofs.entries.between.Statement.{statement}
-use Rattle.show.proofs.entries.between.Tie as tie
+use Rattle.play.specs.Looks.{between}
+use Rattle.play.proofs.looks.between.Statement.{statement}
+use Rattle.play.proofs.looks.between.Tie as tie
 
 enum-known-one : tie.Need-enum-known-one
 enum-known-one c = search needs

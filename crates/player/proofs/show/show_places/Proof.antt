@@ -1,10 +1,10 @@
--- `show::show_places` meets its contract: the places are counted, so the loop ends.
+-- `player::show::show_places` meets its contract: the places are counted, so the loop ends.
 -- Nothing else is claimed of a program that prints.
 use Prim.Native.Nat.{_≤_, _-_}
 use Rattle.numbers.specs.Sizes.{places}
 use borrow.Author.Needs.{needs}
-use Rattle.show.proofs.show_places.Statement.{statement}
-use Rattle.show.proofs.show_places.Tie as tie
+use Rattle.player.proofs.show.show_places.Statement.{statement}
+use Rattle.player.proofs.show.show_places.Tie as tie
 
 abbrev Inv-loop : tie.InvT-loop
 Inv-loop t buffer i₀ i = i ≤ places

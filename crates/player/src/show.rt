@@ -2,10 +2,6 @@
 // Each function answers whether standard output took all of it; behind a line that it did not take there is none.
 ghost use Prim.Native.Nat.{_<_};
 ghost use Rattle.numbers.specs.Sizes.{places};
-
-mod entries;
-
-pub use entries::show_changes;
 use forms::put_form;
 use libc::STDOUT_FILENO;
 use lldpdu::chassis_of;
@@ -85,7 +81,7 @@ fn show_places(t: Table, buffer: &[u8]) -> bool {
 }
 
 // One look (J3).
-pub fn show_table(seen: Seen, buffer: &[u8]) -> bool {
+pub(crate) fn show_table(seen: Seen, buffer: &[u8]) -> bool {
     let answer = seen.answer;
     let table = seen.table;
     match answer {

@@ -1,20 +1,15 @@
 // What changed between two looks (J4): a line for each entry of the list that compare gives, or the refusal.
 // The buffers of the first and of the second table are `before` and `after`.
-ghost use mathlib.Core.Path.{_≡_};
 ghost use Prim.Native.Nat.{_<_};
 ghost use Rattle.numbers.specs.Sizes.{places};
-ghost use Rattle.place.specs.State.{state};
-ghost use Rattle.compare.specs.Compare.{looked};
-ghost use Rattle.show.specs.Looks.{between};
-use crate::LINE;
-use crate::put_neighbour;
-use crate::say;
-use crate::say_refusal;
+use crate::show::LINE;
+use crate::show::put_neighbour;
+use crate::show::say;
+use crate::show::say_refusal;
 use compare::Compared;
 use compare::ENTRY;
 use compare::LEFT;
 use compare::LONGEST;
-use compare::compare;
 use forms::put_form;
 use lldpdu::chassis_of;
 use lldpdu::port_of;
@@ -24,7 +19,7 @@ use octets::octet;
 use place::lldpdu_at;
 use place::place_of;
 use play::Seen;
-use replay::Replayed;
+use play::between;
 
 // No list has more entries (D4).
 const MOST: usize = LONGEST / ENTRY;
@@ -105,25 +100,8 @@ fn show_entries(
     true
 }
 
-// The refusal of the first replay, else that of the second, else what compare answers of the two tables.
-fn between(first: Seen, before: &[u8], second: Seen, after: &[u8], list: &mut [u8]) -> Compared
-    ensures { λ r. ⌜ looked r (now (list .exit)) ≡ between (first .answer) (state (first .table) (now (before .entry))) (second .answer) (state (second .table) (now (after .entry))) (now (list .entry)) ⌝ }
-{
-    let one = first.answer;
-    let other = second.answer;
-    if let Replayed::Refused(n) = one {
-        return Compared::Refused(n);
-    }
-    if let Replayed::Refused(n) = other {
-        return Compared::Refused(n);
-    }
-    let t = first.table;
-    let u = second.table;
-    compare(t, before, u, after, list)
-}
-
 // Two looks.
-pub fn show_changes(first: Seen, before: &[u8], second: Seen, after: &[u8]) -> bool {
+pub(crate) fn show_changes(first: Seen, before: &[u8], second: Seen, after: &[u8]) -> bool {
     let mut list = [0u8; LONGEST];
     let answer = between(first, before, second, after, &mut list);
     let t = first.table;
