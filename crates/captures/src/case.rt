@@ -9,7 +9,7 @@ const HEAD: usize = 31;
 
 pub(crate) const FILE: usize = 1400000;
 
-#[derive(Drop)]
+#[derive(Clone, Copy)]
 pub(crate) struct Case {
     pub(crate) goes_on: bool,
     pub(crate) port: usize,

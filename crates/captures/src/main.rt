@@ -1,5 +1,7 @@
 // captures: replays the stored captures in pieces and prints each answer with a digest, to be compared with the stored output.
 // The output was made by the independent program in twin/; nothing of it comes from this one.
+#![tactic(auto)]
+
 mod case;
 mod play;
 
@@ -7,9 +9,11 @@ use arguments::number_in;
 use case::{Case, FILE, capture_at, case_at, next};
 use digest::digest_of;
 use forms::put_form;
-use libc::STDOUT_FILENO;
+use input::read_file;
 use play::{Played, play};
 use replay::Replayed;
+use std::env::{Env, FillError};
+use std::io;
 use table::{OCTETS, Table, empty_table, start};
 use text::{Part, text_of};
 
@@ -21,6 +25,9 @@ const STORE: usize = 65535;
 
 // More than the longest line.
 const LINE: usize = 128;
+
+// Room for an argument.
+const WORD: usize = 4096;
 
 // Room for the file, for the table's buffer and for record buffers. Each is a call's result so that no proof has to count its octets.
 fn file_room() -> [u8; FILE] {
@@ -35,21 +42,28 @@ fn record_store() -> [u8; STORE] {
     [0; STORE]
 }
 
-fn say_line(case: usize, size: usize, form: usize, n: usize, digest: u32) {
+fn say_line(
+    rt: &impl Print,
+    case: usize,
+    size: usize,
+    form: usize,
+    n: usize,
+    digest: u32,
+) -> io::Result<()> {
     let mut line = [0u8; LINE];
     let forms = b"# # handed # #\n|# # refused # #\n";
     let values = [case, size, n, digest as usize];
     let end = put_form(&mut line, 0, forms, form, &values, forms);
-    io::write_all(STDOUT_FILENO, text_of(&line, Part { start: 0, len: end }));
+    rt.write_all(text_of(&line, Part { start: 0, len: end }))
 }
 
 // The number of the case, the size of its pieces, the answer, and the digest of what the replay left.
-fn say(case: usize, size: usize, p: Played, buffer: &[u8]) {
+fn say(rt: &impl Print, case: usize, size: usize, p: Played, buffer: &[u8]) -> io::Result<()> {
     let answer = p.answer;
     let digest = digest_of(p.table, buffer);
     match answer {
-        Replayed::Handed(n) => say_line(case, size, 1, n, digest),
-        Replayed::Refused(n) => say_line(case, size, 2, n as usize, digest),
+        Replayed::Handed(n) => say_line(rt, case, size, 1, n, digest),
+        Replayed::Refused(n) => say_line(rt, case, size, 2, n as usize, digest),
     }
 }
 
@@ -63,6 +77,7 @@ fn table_for(c: Case, t: Table, buffer: &mut [u8]) -> Table {
 
 // The record buffer is the front of the store, which is long enough for every case.
 fn run(
+    rt: &impl Print,
     case: usize,
     size: usize,
     c: Case,
@@ -70,24 +85,30 @@ fn run(
     t: Table,
     buffer: &mut [u8],
     store: &mut [u8],
-) -> Table {
+) -> io::Result<Table> {
     let room = c.room;
     if room > store.len() {
-        return t;
+        return Ok(t);
     }
     let u = table_for(c, t, buffer);
     let p = play(c, size, capture, u, buffer, &mut store[0..room]);
-    say(case, size, p, buffer);
-    p.table
+    say(rt, case, size, p, buffer)?;
+    Ok(p.table)
 }
 
 // All cases in pieces of one size, from a newly started table on.
-fn run_all(file: &[u8], size: usize, buffer: &mut [u8], store: &mut [u8]) {
+fn run_all(
+    rt: &impl Print,
+    file: &[u8],
+    size: usize,
+    buffer: &mut [u8],
+    store: &mut [u8],
+) -> io::Result<()> {
     let mut t = start(empty_table(), buffer).table;
     let mut at = 0;
     for case in 1..CASES {
         if at >= file.len() {
-            return;
+            break;
         }
         let octets = text_of(
             file,
@@ -97,38 +118,41 @@ fn run_all(file: &[u8], size: usize, buffer: &mut [u8], store: &mut [u8]) {
             },
         );
         let c = case_at(octets);
-        t = run(case, size, c, capture_at(octets, c), t, buffer, store);
+        t = run(rt, case, size, c, capture_at(octets, c), t, buffer, store)?;
         at = next(at, c);
     }
+    Ok(())
 }
 
-// One size, which an argument says; 0 is the whole capture in one piece.
-fn run_argument(file: &[u8], i: usize, buffer: &mut [u8], store: &mut [u8]) {
-    let mut word = io::buffer();
-    let n = os::arg(i, &mut word);
-    run_all(file, number_in(&word[..n]), buffer, store);
-}
-
-fn run_arguments(file: &[u8], buffer: &mut [u8], store: &mut [u8]) {
-    for i in 1..os::arg_count() {
-        run_argument(file, i, buffer, store);
+// Each argument is one size; 0 is the whole capture in one piece. One that there is no room for is as an empty one.
+fn run_arguments(
+    rt: &(impl Env + Print),
+    file: &[u8],
+    buffer: &mut [u8],
+    store: &mut [u8],
+) -> io::Result<()> {
+    for i in 1..usize::MAX {
+        let mut word = [0u8; WORD];
+        let n = match rt.arg(i, &mut word) {
+            Ok(n) => n,
+            Err(FillError::TooLong) => 0,
+            Err(FillError::NotPresent) => break,
+        };
+        run_all(rt, file, number_in(&word[..n]), buffer, store)?;
     }
+    Ok(())
 }
 
-fn main() {
-    let fd = os::open_read(b"captures");
-    if fd < 0 {
-        os::fail(b"captures");
-        return;
-    }
-    let mut file = file_room();
-    let n = io::read_full(fd, &mut file);
-    libc::close(fd);
+fn run_file(rt: &(impl Env + Print), file: &[u8]) -> io::Result<()> {
     let mut buffer = table_buffer();
     let mut store = record_store();
-    run_arguments(
-        text_of(&file, Part { start: 0, len: n }),
-        &mut buffer,
-        &mut store,
-    );
+    run_arguments(rt, file, &mut buffer, &mut store)
+}
+
+fn main(rt: HostRuntime) -> io::Result<()> {
+    let mut file = file_room();
+    match read_file(&rt, "captures", &mut file)? {
+        Some(n) => run_file(&rt, text_of(&file, Part { start: 0, len: n })),
+        None => Ok(()),
+    }
 }

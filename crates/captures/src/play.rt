@@ -6,7 +6,7 @@ use crate::case::Case;
 use replay::{Fed, Replayed, begin, feed, finish};
 use table::Table;
 
-#[derive(Drop)]
+#[derive(Clone, Copy)]
 pub(crate) struct Played {
     pub(crate) answer: Replayed,
     pub(crate) table: Table,

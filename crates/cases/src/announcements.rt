@@ -7,6 +7,7 @@ use octets::{octet, pair, value_of};
 use reader::{
     Capabilities, Description, IdPart, Link, Optional, Part, Parts, System, read_lldpdu, text_of,
 };
+use std::io;
 use writer::{Written, write};
 
 // The octets of a case before its text.
@@ -136,34 +137,39 @@ fn touched(out: &[u8]) -> usize
     0
 }
 
-fn say_output(case: usize, out: &[u8]) {
+fn say_output(rt: &impl Print, case: usize, out: &[u8]) -> io::Result<()> {
     let n = touched(out);
-    say(OUTPUT, [case, 0, n, out.len() - n, 0, 0, 0, 0, 0, 0], out);
+    say(
+        rt,
+        OUTPUT,
+        [case, 0, n, out.len() - n, 0, 0, 0, 0, 0, 0],
+        out,
+    )
 }
 
 // What was read, written again.
-fn say_again(case: usize, lldpdu: &[u8]) {
+fn say_again(rt: &impl Print, case: usize, lldpdu: &[u8]) -> io::Result<()> {
     let r = read_lldpdu(lldpdu);
     let d = r.description;
     let mut out = [UNTOUCHED; ROOM];
     match write(d, lldpdu, &mut out) {
-        Written::Refused(n) => say_two(AGAIN_REFUSED, case, n as usize, lldpdu),
-        Written::Octets(n) => say_two(AGAIN, case, n, text_of(&out, Part { start: 0, len: n })),
+        Written::Refused(n) => say_two(rt, AGAIN_REFUSED, case, n as usize, lldpdu),
+        Written::Octets(n) => say_two(rt, AGAIN, case, n, text_of(&out, Part { start: 0, len: n })),
     }
 }
 
-fn say_answer(case: usize, w: Written, out: &[u8]) {
+fn say_answer(rt: &impl Print, case: usize, w: Written, out: &[u8]) -> io::Result<()> {
     match w {
         Written::Refused(n) => {
-            say_two(REFUSED, case, n as usize, out);
-            say_output(case, out);
+            say_two(rt, REFUSED, case, n as usize, out)?;
+            say_output(rt, case, out)
         }
         Written::Octets(n) => {
             let lldpdu = text_of(out, Part { start: 0, len: n });
-            say_two(WROTE, case, n, out);
-            say_output(case, out);
-            say_reading(case, lldpdu, read_lldpdu(lldpdu));
-            say_again(case, lldpdu);
+            say_two(rt, WROTE, case, n, out)?;
+            say_output(rt, case, out)?;
+            say_reading(rt, case, lldpdu, read_lldpdu(lldpdu))?;
+            say_again(rt, case, lldpdu)
         }
     }
 }
@@ -176,10 +182,17 @@ fn written(d: Description, text: &[u8], room: usize, out: &mut [u8]) -> Written 
     write(d, text, &mut out[..room])
 }
 
-fn answer(case: usize, d: Description, text: &[u8], room: usize) {
+fn answer(
+    rt: &impl Print,
+    case: usize,
+    d: Description,
+    text: &[u8],
+    room: usize,
+) -> io::Result<()> {
     let mut out = [UNTOUCHED; ROOM];
     let w = written(d, text, room, &mut out);
     say_answer(
+        rt,
         case,
         w,
         text_of(
@@ -189,14 +202,15 @@ fn answer(case: usize, d: Description, text: &[u8], room: usize) {
                 len: room,
             },
         ),
-    );
+    )
 }
 
 // The case at the front of the octets; how many of them it has.
-pub(crate) fn run_case(case: usize, octets: &[u8]) -> u32 {
+pub(crate) fn run_case(rt: &impl Print, case: usize, octets: &[u8]) -> io::Result<u32> {
     let room = pair(octet(octets, 308), octet(octets, 309)) as usize;
     let length = pair(octet(octets, 310), octet(octets, 311));
     answer(
+        rt,
         case,
         description_at(octets),
         text_of(
@@ -207,6 +221,6 @@ pub(crate) fn run_case(case: usize, octets: &[u8]) -> u32 {
             },
         ),
         room,
-    );
-    HEAD + length as u32
+    )?;
+    Ok(HEAD + length as u32)
 }

@@ -1,12 +1,12 @@
 // What the cases print: answers and octets, in the one layout that the stored output has.
 // An answer is made into numbers; a form, which is named by its number, says what stands between them.
 use forms::put_form;
-use libc::STDOUT_FILENO;
 use reader::{
     Capabilities, Description, Extent, IdPart, Link, Naming, Optional, Outline, Part, Parts,
     Reading, System, address_at, counts_of, item_at, nth_part, pairing_at, part_count,
     port_item_at, text_of,
 };
+use std::io;
 
 // The numbers of the forms below.
 pub(crate) const REFUSED: usize = 1;
@@ -58,7 +58,12 @@ const ASKED: usize = 26;
 const LINE: usize = 4096;
 
 // A form, with its marks filled in.
-pub(crate) fn say(form: usize, values: [usize; 10], text: &[u8]) {
+pub(crate) fn say(
+    rt: &impl Print,
+    form: usize,
+    values: [usize; 10],
+    text: &[u8],
+) -> io::Result<()> {
     let mut line = [0u8; LINE];
     let end = put_form(
         &mut line,
@@ -68,16 +73,28 @@ pub(crate) fn say(form: usize, values: [usize; 10], text: &[u8]) {
         &values,
         text,
     );
-    io::write_all(STDOUT_FILENO, text_of(&line, Part { start: 0, len: end }));
+    rt.write_all(text_of(&line, Part { start: 0, len: end }))
 }
 
 // A form that has two numbers, and then may have the whole text.
-pub(crate) fn say_two(form: usize, first: usize, second: usize, text: &[u8]) {
-    say(form, [first, second, 0, text.len(), 0, 0, 0, 0, 0, 0], text);
+pub(crate) fn say_two(
+    rt: &impl Print,
+    form: usize,
+    first: usize,
+    second: usize,
+    text: &[u8],
+) -> io::Result<()> {
+    say(
+        rt,
+        form,
+        [first, second, 0, text.len(), 0, 0, 0, 0, 0, 0],
+        text,
+    )
 }
 
 // What an outline and a reading both say of an announcement that is valid: its identity and its seconds.
 fn say_identity(
+    rt: &impl Print,
     title: usize,
     case: usize,
     length: usize,
@@ -85,8 +102,9 @@ fn say_identity(
     chassis: IdPart,
     port: IdPart,
     seconds: u16,
-) {
+) -> io::Result<()> {
     say(
+        rt,
         title,
         [
             case,
@@ -101,15 +119,21 @@ fn say_identity(
             0,
         ],
         lldpdu,
-    );
+    )
 }
 
-pub(crate) fn say_outline(case: usize, lldpdu: &[u8], o: Outline) {
+pub(crate) fn say_outline(
+    rt: &impl Print,
+    case: usize,
+    lldpdu: &[u8],
+    o: Outline,
+) -> io::Result<()> {
     let extent = o.extent;
     match extent {
-        Extent::Refused(n) => say_two(OUTLINE_REFUSED, case, n as usize, lldpdu),
+        Extent::Refused(n) => say_two(rt, OUTLINE_REFUSED, case, n as usize, lldpdu),
         Extent::Octets(length) => {
             say_identity(
+                rt,
                 OUTLINE_VALID,
                 case,
                 length,
@@ -117,19 +141,20 @@ pub(crate) fn say_outline(case: usize, lldpdu: &[u8], o: Outline) {
                 o.chassis,
                 o.port,
                 o.seconds,
-            );
+            )
         }
     }
 }
 
-fn say_link(lldpdu: &[u8], link: Link) {
+fn say_link(rt: &impl Print, lldpdu: &[u8], link: Link) -> io::Result<()> {
     match link {
-        Link::Absent => say_two(ABSENT, 0, 0, lldpdu),
+        Link::Absent => say_two(rt, ABSENT, 0, 0, lldpdu),
         Link::Table {
             interface,
             port,
             addresses,
         } => say(
+            rt,
             LINK,
             [
                 interface.start,
@@ -148,15 +173,15 @@ fn say_link(lldpdu: &[u8], link: Link) {
     }
 }
 
-fn say_optional(lldpdu: &[u8], o: Optional) {
+fn say_optional(rt: &impl Print, lldpdu: &[u8], o: Optional) -> io::Result<()> {
     match o {
-        Optional::Absent => say_two(ABSENT, 0, 0, lldpdu),
-        Optional::Present(p) => say_two(PRESENT, p.start, p.len, lldpdu),
+        Optional::Absent => say_two(rt, ABSENT, 0, 0, lldpdu),
+        Optional::Present(p) => say_two(rt, PRESENT, p.start, p.len, lldpdu),
     }
 }
 
 // The form of capabilities, and its two numbers.
-#[derive(Drop)]
+#[derive(Clone, Copy)]
 struct Flags {
     form: usize,
     able: usize,
@@ -179,10 +204,11 @@ fn flags_of(c: Capabilities) -> Flags {
 }
 
 // System name, system description and capabilities.
-fn say_system(lldpdu: &[u8], x: System) {
+fn say_system(rt: &impl Print, lldpdu: &[u8], x: System) -> io::Result<()> {
     let capabilities = x.capabilities;
     let flags = flags_of(capabilities);
     say(
+        rt,
         flags.form,
         [
             x.name.start,
@@ -197,16 +223,17 @@ fn say_system(lldpdu: &[u8], x: System) {
             0,
         ],
         lldpdu,
-    );
+    )
 }
 
 // As many as there are, each in the form for that number.
-fn say_management(lldpdu: &[u8], l: Parts) {
+fn say_management(rt: &impl Print, lldpdu: &[u8], l: Parts) -> io::Result<()> {
     let first = nth_part(l, 0);
     let second = nth_part(l, 1);
     let third = nth_part(l, 2);
     let fourth = nth_part(l, 3);
     say(
+        rt,
         NO_MANAGEMENT + part_count(l),
         [
             first.start,
@@ -221,16 +248,17 @@ fn say_management(lldpdu: &[u8], l: Parts) {
             0,
         ],
         lldpdu,
-    );
+    )
 }
 
-fn say_fields(lldpdu: &[u8], d: Description) {
+fn say_fields(rt: &impl Print, lldpdu: &[u8], d: Description) -> io::Result<()> {
     let link = d.link;
     let extension = d.extension;
     let list = d.list;
     let system = d.system;
     let management = system.management;
     say(
+        rt,
         STRINGS,
         [
             d.words.start,
@@ -245,31 +273,39 @@ fn say_fields(lldpdu: &[u8], d: Description) {
             d.number.len,
         ],
         lldpdu,
-    );
-    say_link(lldpdu, link);
-    say_optional(lldpdu, extension);
-    say_optional(lldpdu, list);
-    say_system(lldpdu, system);
-    say_management(lldpdu, management);
+    )?;
+    say_link(rt, lldpdu, link)?;
+    say_optional(rt, lldpdu, extension)?;
+    say_optional(rt, lldpdu, list)?;
+    say_system(rt, lldpdu, system)?;
+    say_management(rt, lldpdu, management)
 }
 
-pub(crate) fn say_reading(case: usize, lldpdu: &[u8], r: Reading) {
+pub(crate) fn say_reading(
+    rt: &impl Print,
+    case: usize,
+    lldpdu: &[u8],
+    r: Reading,
+) -> io::Result<()> {
     let extent = r.extent;
     match extent {
-        Extent::Refused(n) => say_two(READING_REFUSED, case, n as usize, lldpdu),
+        Extent::Refused(n) => say_two(rt, READING_REFUSED, case, n as usize, lldpdu),
         Extent::Octets(length) => {
             let d = r.description;
             let title = if r.htip { READING_YES } else { READING_NO };
-            say_identity(title, case, length, lldpdu, d.chassis, d.port, d.seconds);
-            say_fields(lldpdu, d);
+            say_identity(
+                rt, title, case, length, lldpdu, d.chassis, d.port, d.seconds,
+            )?;
+            say_fields(rt, lldpdu, d)
         }
     }
 }
 
 // What extension link information answers: its counts, then its address i with the item j, its pairing address i, its port's item j.
-fn say_asked(case: usize, content: &[u8], i: usize, j: usize) {
+fn say_asked(rt: &impl Print, case: usize, content: &[u8], i: usize, j: usize) -> io::Result<()> {
     let c = counts_of(content);
     say(
+        rt,
         COUNTS,
         [
             case,
@@ -284,12 +320,13 @@ fn say_asked(case: usize, content: &[u8], i: usize, j: usize) {
             c.portitems as usize,
         ],
         content,
-    );
+    )?;
     let address = address_at(content, i);
     let item = item_at(content, i, j);
     let pairing = pairing_at(content, i);
     let own = port_item_at(content, j);
     say(
+        rt,
         ASKED,
         [
             address.start,
@@ -304,23 +341,31 @@ fn say_asked(case: usize, content: &[u8], i: usize, j: usize) {
             0,
         ],
         content,
-    );
+    )
 }
 
-pub(crate) fn say_extension(case: usize, lldpdu: &[u8], r: Reading, i: usize, j: usize) {
+pub(crate) fn say_extension(
+    rt: &impl Print,
+    case: usize,
+    lldpdu: &[u8],
+    r: Reading,
+    i: usize,
+    j: usize,
+) -> io::Result<()> {
     let d = r.description;
     let extension = d.extension;
     match extension {
-        Optional::Absent => {}
-        Optional::Present(p) => say_asked(case, text_of(lldpdu, p), i, j),
+        Optional::Absent => Ok(()),
+        Optional::Present(p) => say_asked(rt, case, text_of(lldpdu, p), i, j),
     }
 }
 
-pub(crate) fn say_naming(case: usize, lldpdu: &[u8], n: Naming) {
+pub(crate) fn say_naming(rt: &impl Print, case: usize, lldpdu: &[u8], n: Naming) -> io::Result<()> {
     match n {
-        Naming::Refused(number) => say_two(NAMING_REFUSED, case, number as usize, lldpdu),
-        Naming::Nowhere => say_two(NAMING_NONE, case, 0, lldpdu),
+        Naming::Refused(number) => say_two(rt, NAMING_REFUSED, case, number as usize, lldpdu),
+        Naming::Nowhere => say_two(rt, NAMING_NONE, case, 0, lldpdu),
         Naming::Link { interface, port } => say(
+            rt,
             NAMING,
             [
                 case,

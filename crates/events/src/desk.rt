@@ -6,6 +6,7 @@ ghost use Rattle.numbers.specs.Sizes.{places};
 use crate::answers::answer;
 use crate::record::Record;
 use octets::octet;
+use std::io;
 use table::{OCTETS, PLACES, Sender, Table};
 use whole::fill;
 
@@ -88,21 +89,23 @@ fn spoil(r: Record, t: Table, store: &mut [u8]) -> Table {
 
 // The calls have the front of the store for a buffer, where the store is that long.
 fn run_calls(
+    rt: &impl Print,
     case: usize,
     r: Record,
     t: Table,
     lent: usize,
     frame: &[u8],
     store: &mut [u8],
-) -> Table {
+) -> io::Result<Table> {
     if lent > store.len() {
-        return t;
+        return Ok(t);
     }
-    answer(case, r, t, &mut store[0..lent], frame)
+    answer(rt, case, r, t, &mut store[0..lent], frame)
 }
 
 // What a record does to the table and to the store. Kind 13 keeps the store, and kind 14 takes it back.
 pub(crate) fn run(
+    rt: &impl Print,
     case: usize,
     r: Record,
     t: Table,
@@ -110,21 +113,21 @@ pub(crate) fn run(
     frame: &[u8],
     store: &mut [u8],
     kept: &mut [u8],
-) -> Table {
+) -> io::Result<Table> {
     let kind = r.kind;
     match kind {
-        6 => t,
-        7..=12 => spoil(r, t, store),
+        6 => Ok(t),
+        7..=12 => Ok(spoil(r, t, store)),
         13 => {
             fill(kept, store);
-            t
+            Ok(t)
         }
         14 => {
-            let u = run_calls(case, r, t, lent, frame, store);
+            let u = run_calls(rt, case, r, t, lent, frame, store)?;
             fill(store, kept);
-            u
+            Ok(u)
         }
-        _ => run_calls(case, r, t, lent, frame, store),
+        _ => run_calls(rt, case, r, t, lent, frame, store),
     }
 }
 

@@ -1,12 +1,16 @@
 // events: runs the stored events on the table and prints each answer with a digest, to be compared with the stored output.
 // The output was made by the independent program in twin/; nothing of it comes from this one.
+#![tactic(auto)]
+
 mod answers;
 mod desk;
 mod print;
 mod record;
 
+use input::read_file;
 use reader::{Part, text_of};
 use record::FILE;
+use std::io;
 use table::{OCTETS, empty_table};
 
 // A proved loop has to end, so the records are counted; the file has fewer.
@@ -25,14 +29,14 @@ fn store() -> [u8; STORE] {
 }
 
 // Kind 13 keeps the table beside its store, and kind 14 takes both back.
-fn run_all(file: &[u8], store: &mut [u8], kept: &mut [u8]) {
+fn run_all(rt: &impl Print, file: &[u8], store: &mut [u8], kept: &mut [u8]) -> io::Result<()> {
     let mut t = empty_table();
     let mut k = empty_table();
     let mut lent = OCTETS;
     let mut at = 0;
     for case in 1..RECORDS {
         if at >= file.len() {
-            return;
+            break;
         }
         let octets = text_of(
             file,
@@ -42,28 +46,34 @@ fn run_all(file: &[u8], store: &mut [u8], kept: &mut [u8]) {
             },
         );
         let r = record::record_at(octets);
-        let u = desk::run(case, r, t, lent, record::frame_at(octets, r), store, kept);
+        let u = desk::run(
+            rt,
+            case,
+            r,
+            t,
+            lent,
+            record::frame_at(octets, r),
+            store,
+            kept,
+        )?;
         k = desk::chosen(r.kind == 13, t, k);
         t = desk::chosen(r.kind == 14, k, u);
         lent = desk::lent_behind(r, lent);
         at = record::next(at, r);
     }
+    Ok(())
 }
 
-fn main() {
-    let fd = os::open_read(b"events");
-    if fd < 0 {
-        os::fail(b"events");
-        return;
-    }
-    let mut file = room();
-    let n = io::read_full(fd, &mut file);
-    libc::close(fd);
+fn run_file(rt: &impl Print, file: &[u8]) -> io::Result<()> {
     let mut octets = store();
     let mut kept = store();
-    run_all(
-        text_of(&file, Part { start: 0, len: n }),
-        &mut octets,
-        &mut kept,
-    );
+    run_all(rt, file, &mut octets, &mut kept)
+}
+
+fn main(rt: HostRuntime) -> io::Result<()> {
+    let mut file = room();
+    match read_file(&rt, "events", &mut file)? {
+        Some(n) => run_file(&rt, text_of(&file, Part { start: 0, len: n })),
+        None => Ok(()),
+    }
 }

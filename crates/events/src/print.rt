@@ -2,8 +2,8 @@
 // An answer is made into numbers; a form, which is named by its number, says what stands between them.
 use digest::digest_of;
 use forms::put_form;
-use libc::STDOUT_FILENO;
 use reader::{Part, text_of};
+use std::io;
 use table::{Answer, Count, Reply, Sight, Table};
 
 // The numbers of the forms below: how a line begins and ends, a digest, and the answers.
@@ -36,53 +36,54 @@ const SEEN: usize = 13;
 // More than the longest words.
 const LINE: usize = 128;
 
-fn say_values(form: usize, values: [usize; 5]) {
+fn say_values(rt: &impl Print, form: usize, values: [usize; 5]) -> io::Result<()> {
     let mut line = [0u8; LINE];
     let forms =
         b"#|# spoiled|\n| #| done| refused #| recorded| refreshed| gone| unknown goodbye| holds #| nobody| place # interface #:# port #:#";
     let end = put_form(&mut line, 0, forms, form, &values, forms);
-    io::write_all(STDOUT_FILENO, text_of(&line, Part { start: 0, len: end }));
+    rt.write_all(text_of(&line, Part { start: 0, len: end }))
 }
 
 // A form that has at most one number.
-pub(crate) fn say(form: usize, n: usize) {
-    say_values(form, [n, 0, 0, 0, 0]);
+pub(crate) fn say(rt: &impl Print, form: usize, n: usize) -> io::Result<()> {
+    say_values(rt, form, [n, 0, 0, 0, 0])
 }
 
-pub(crate) fn say_answer(a: Answer) {
+pub(crate) fn say_answer(rt: &impl Print, a: Answer) -> io::Result<()> {
     match a {
-        Answer::Done => say(DONE, 0),
-        Answer::Refused(n) => say(REFUSED, n as usize),
+        Answer::Done => say(rt, DONE, 0),
+        Answer::Refused(n) => say(rt, REFUSED, n as usize),
     }
 }
 
-pub(crate) fn say_reply(r: Reply) {
+pub(crate) fn say_reply(rt: &impl Print, r: Reply) -> io::Result<()> {
     match r {
-        Reply::Recorded => say(RECORDED, 0),
-        Reply::Refreshed => say(REFRESHED, 0),
-        Reply::Gone => say(GONE, 0),
-        Reply::UnknownGoodbye => say(UNKNOWN_GOODBYE, 0),
-        Reply::Refused(n) => say(REFUSED, n as usize),
+        Reply::Recorded => say(rt, RECORDED, 0),
+        Reply::Refreshed => say(rt, REFRESHED, 0),
+        Reply::Gone => say(rt, GONE, 0),
+        Reply::UnknownGoodbye => say(rt, UNKNOWN_GOODBYE, 0),
+        Reply::Refused(n) => say(rt, REFUSED, n as usize),
     }
 }
 
-pub(crate) fn say_count(c: Count) {
+pub(crate) fn say_count(rt: &impl Print, c: Count) -> io::Result<()> {
     match c {
-        Count::Holds(n) => say(HOLDS, n as usize),
-        Count::Refused(n) => say(REFUSED, n as usize),
+        Count::Holds(n) => say(rt, HOLDS, n as usize),
+        Count::Refused(n) => say(rt, REFUSED, n as usize),
     }
 }
 
 // Of a number the count of octets and the value, since 00 06 is not 06 (A4).
-pub(crate) fn say_sight(s: Sight) {
+pub(crate) fn say_sight(rt: &impl Print, s: Sight) -> io::Result<()> {
     match s {
-        Sight::Refused(n) => say(REFUSED, n as usize),
-        Sight::Nobody => say(NOBODY, 0),
+        Sight::Refused(n) => say(rt, REFUSED, n as usize),
+        Sight::Nobody => say(rt, NOBODY, 0),
         Sight::At {
             place,
             interface,
             port,
         } => say_values(
+            rt,
             SEEN,
             [
                 place,
@@ -95,6 +96,6 @@ pub(crate) fn say_sight(s: Sight) {
     }
 }
 
-pub(crate) fn say_digest(t: Table, buffer: &[u8]) {
-    say(DIGEST, digest_of(t, buffer) as usize);
+pub(crate) fn say_digest(rt: &impl Print, t: Table, buffer: &[u8]) -> io::Result<()> {
+    say(rt, DIGEST, digest_of(t, buffer) as usize)
 }

@@ -8,7 +8,7 @@ const HEAD: usize = 19;
 
 pub(crate) const FILE: usize = 1440000;
 
-#[derive(Drop)]
+#[derive(Clone, Copy)]
 pub(crate) struct Record {
     pub(crate) kind: u8,
     pub(crate) number: usize,

@@ -1,8 +1,11 @@
 // judge: reads one frame from standard input and says what it announces, in four lines, or `refused ` and the number (J1).
 // The reader decides everything; this program only reads, fills in a form and writes the answer at once.
+#![tactic(auto)]
+
 use forms::put_form;
-use libc::{STDIN_FILENO, STDOUT_FILENO};
+use input::read_front;
 use reader::{Extent, Part, Reading, read_frame, text_of};
+use std::io;
 
 // The parts of a reading count from the octet behind the header (F1).
 const LLDPDU: Part = Part {
@@ -46,10 +49,14 @@ fn put_answer(line: &mut [u8], frame: &[u8]) -> usize {
 }
 
 // One octet more than the longest frame, so that a longer input shows as one (F1).
-fn main() {
+fn main(rt: HostRuntime) -> io::Result<()> {
     let mut frame = [0u8; 1515];
-    let n = io::read_full(STDIN_FILENO, &mut frame);
+    let n = read_front(rt.stdin(), &mut frame)?;
     let mut line = [0u8; ROOM];
-    let end = put_answer(&mut line, &frame[..n]);
-    io::write_all(STDOUT_FILENO, text_of(&line, Part { start: 0, len: end }));
+    let end = put_answer(&mut line, text_of(&frame, Part { start: 0, len: n }));
+    // A pipe that nobody reads any more is no failure.
+    match rt.write_all(text_of(&line, Part { start: 0, len: end })) {
+        Err(e) if e.kind() == io::ErrorKind::BrokenPipe => Ok(()),
+        written => written,
+    }
 }

@@ -4,6 +4,7 @@ use crate::print::{say, say_reply};
 use crate::record::Record;
 use compare::compare;
 use place::store as store_record;
+use std::io;
 use table::{OCTETS, Table, empty_table, frame_on_port};
 use text::{Part, text_of};
 use whole::fill;
@@ -15,13 +16,13 @@ pub(crate) const STORE: usize = OCTETS + 2000;
 const LIST: usize = 256;
 
 // A table, and how many octets of its store are lent with it.
-#[derive(Drop)]
+#[derive(Clone, Copy)]
 pub(crate) struct Side {
     table: Table,
     lent: usize,
 }
 
-#[derive(Drop)]
+#[derive(Clone, Copy)]
 pub(crate) struct Sides {
     first: Side,
     second: Side,
@@ -65,40 +66,54 @@ fn put(store: &mut [u8], at: usize, b: u8) {
 }
 
 // A frame comes on a port, and the answer is printed (6). No more octets can be lent than the store has.
-fn heard(number: usize, r: Record, s: Side, frame: &[u8], store: &mut [u8]) -> Side {
+fn heard(
+    rt: &impl Print,
+    number: usize,
+    r: Record,
+    s: Side,
+    frame: &[u8],
+    store: &mut [u8],
+) -> io::Result<Side> {
     let table = s.table;
     let lent = s.lent;
     if lent > store.len() {
-        return s;
+        return Ok(s);
     }
     let o = frame_on_port(table, &mut store[0..lent], r.port as usize, frame);
     let reply = o.reply;
-    say_reply(number, reply);
+    say_reply(rt, number, reply)?;
     let after = o.table;
-    Side {
+    Ok(Side {
         table: after,
         lent: lent,
-    }
+    })
 }
 
 // The octets are the LLDPDU of a place or a frame.
-fn prepared(number: usize, r: Record, s: Side, octets: &[u8], store: &mut [u8]) -> Side {
+fn prepared(
+    rt: &impl Print,
+    number: usize,
+    r: Record,
+    s: Side,
+    octets: &[u8],
+    store: &mut [u8],
+) -> io::Result<Side> {
     let table = s.table;
     let kind = r.kind;
     match kind {
-        1 => Side {
+        1 => Ok(Side {
             table: placed(r, table, octets, store),
             lent: s.lent,
-        },
+        }),
         2 => {
             put(store, r.length, r.port);
-            s
+            Ok(s)
         }
-        6 => heard(number, r, s, octets, store),
-        _ => Side {
+        6 => heard(rt, number, r, s, octets, store),
+        _ => Ok(Side {
             table: table,
             lent: r.length,
-        },
+        }),
     }
 }
 
@@ -119,7 +134,15 @@ fn front_of(store: &[u8], lent: usize) -> &[u8] {
     )
 }
 
-fn compared_in(number: usize, list: &mut [u8], a: Side, store: &[u8], b: Side, store2: &[u8]) {
+fn compared_in(
+    rt: &impl Print,
+    number: usize,
+    list: &mut [u8],
+    a: Side,
+    store: &[u8],
+    b: Side,
+    store2: &[u8],
+) -> io::Result<()> {
     fill_list(list);
     let first = a.table;
     let second = b.table;
@@ -130,38 +153,48 @@ fn compared_in(number: usize, list: &mut [u8], a: Side, store: &[u8], b: Side, s
         front_of(store2, b.lent),
         list,
     );
-    say(number, answer, list);
+    say(rt, number, answer, list)
 }
 
 // With a list of n octets.
-fn compared(number: usize, n: usize, a: Side, store: &[u8], b: Side, store2: &[u8]) {
+fn compared(
+    rt: &impl Print,
+    number: usize,
+    n: usize,
+    a: Side,
+    store: &[u8],
+    b: Side,
+    store2: &[u8],
+) -> io::Result<()> {
     let mut list = [0u8; LIST];
     if n <= LIST {
-        compared_in(number, &mut list[0..n], a, store, b, store2);
+        compared_in(rt, number, &mut list[0..n], a, store, b, store2)?;
     }
+    Ok(())
 }
 
 // A record that changes the first table (side 0) or the second.
 fn changed(
+    rt: &impl Print,
     number: usize,
     r: Record,
     s: Sides,
     octets: &[u8],
     store: &mut [u8],
     store2: &mut [u8],
-) -> Sides {
+) -> io::Result<Sides> {
     let first = s.first;
     let second = s.second;
     if r.side == 0 {
-        return Sides {
-            first: prepared(number, r, first, octets, store),
+        return Ok(Sides {
+            first: prepared(rt, number, r, first, octets, store)?,
             second: second,
-        };
+        });
     }
-    Sides {
+    Ok(Sides {
         first: first,
-        second: prepared(number, r, second, octets, store2),
-    }
+        second: prepared(rt, number, r, second, octets, store2)?,
+    })
 }
 
 // A side becomes a copy of the other one, table, store and what of it is lent (7).
@@ -183,26 +216,27 @@ fn copied(r: Record, s: Sides, store: &mut [u8], store2: &mut [u8]) -> Sides {
 }
 
 pub(crate) fn run(
+    rt: &impl Print,
     number: usize,
     r: Record,
     s: Sides,
     octets: &[u8],
     store: &mut [u8],
     store2: &mut [u8],
-) -> Sides {
+) -> io::Result<Sides> {
     let first = s.first;
     let second = s.second;
     let kind = r.kind;
     match kind {
         4 => {
-            compared(number, r.length, first, store, second, store2);
-            s
+            compared(rt, number, r.length, first, store, second, store2)?;
+            Ok(s)
         }
         5 => {
-            compared(number, r.length, second, store2, first, store);
-            s
+            compared(rt, number, r.length, second, store2, first, store)?;
+            Ok(s)
         }
-        7 => copied(r, s, store, store2),
-        _ => changed(number, r, s, octets, store, store2),
+        7 => Ok(copied(r, s, store, store2)),
+        _ => changed(rt, number, r, s, octets, store, store2),
     }
 }

@@ -1,11 +1,15 @@
 // looks: compares stored pairs of tables, hears stored frames on them, and prints each answer, to be compared with the stored output.
 // The output was made by the independent program in twin/; nothing of it comes from this one.
+#![tactic(auto)]
+
 mod desk;
 mod print;
 mod record;
 
 use desk::{STORE, run, two_empty};
+use input::read_file;
 use record::{FILE, behind, next, record_at};
+use std::io;
 use text::{Part, text_of};
 
 // A proved loop has to end, so the records are counted; the file has fewer.
@@ -20,12 +24,12 @@ fn store() -> [u8; STORE] {
     [0; STORE]
 }
 
-fn run_all(file: &[u8], store: &mut [u8], store2: &mut [u8]) {
+fn run_all(rt: &impl Print, file: &[u8], store: &mut [u8], store2: &mut [u8]) -> io::Result<()> {
     let mut pair = two_empty();
     let mut at = 0;
     for number in 1..RECORDS {
         if at >= file.len() {
-            return;
+            break;
         }
         let octets = text_of(
             file,
@@ -35,25 +39,22 @@ fn run_all(file: &[u8], store: &mut [u8], store2: &mut [u8]) {
             },
         );
         let r = record_at(octets);
-        pair = run(number, r, pair, behind(octets, r), store, store2);
+        pair = run(rt, number, r, pair, behind(octets, r), store, store2)?;
         at = next(at, r);
     }
+    Ok(())
 }
 
-fn main() {
-    let fd = os::open_read(b"looks");
-    if fd < 0 {
-        os::fail(b"looks");
-        return;
-    }
-    let mut file = room();
-    let n = io::read_full(fd, &mut file);
-    libc::close(fd);
+fn run_file(rt: &impl Print, file: &[u8]) -> io::Result<()> {
     let mut first = store();
     let mut second = store();
-    run_all(
-        text_of(&file, Part { start: 0, len: n }),
-        &mut first,
-        &mut second,
-    );
+    run_all(rt, file, &mut first, &mut second)
+}
+
+fn main(rt: HostRuntime) -> io::Result<()> {
+    let mut file = room();
+    match read_file(&rt, "looks", &mut file)? {
+        Some(n) => run_file(&rt, text_of(&file, Part { start: 0, len: n })),
+        None => Ok(()),
+    }
 }

@@ -2,7 +2,7 @@
 // A frame prints the number of its record and the answer. A form, which is named by its number, says what stands between them.
 use compare::Compared;
 use forms::put_form;
-use libc::STDOUT_FILENO;
+use std::io;
 use table::Reply;
 use text::{Part, text_of};
 
@@ -30,7 +30,7 @@ fn list_form(list: &[u8]) -> usize {
     if list.len() == 0 { NO_OCTETS } else { OCTETS }
 }
 
-fn say_form(number: usize, form: usize, n: usize, list: &[u8]) {
+fn say_form(rt: &impl Print, number: usize, form: usize, n: usize, list: &[u8]) -> io::Result<()> {
     let mut line = [0u8; LINE];
     let forms = b"# listed #|# refused #|# recorded|# refreshed|# gone|# unknown goodbye| ~\n|\n";
     let at = put_form(&mut line, 0, forms, form, &[number, n], list);
@@ -42,27 +42,27 @@ fn say_form(number: usize, form: usize, n: usize, list: &[u8]) {
         &[0, list.len()],
         list,
     );
-    io::write_all(STDOUT_FILENO, text_of(&line, Part { start: 0, len: end }));
+    rt.write_all(text_of(&line, Part { start: 0, len: end }))
 }
 
-pub(crate) fn say(number: usize, answer: Compared, list: &[u8]) {
+pub(crate) fn say(rt: &impl Print, number: usize, answer: Compared, list: &[u8]) -> io::Result<()> {
     match answer {
-        Compared::Listed(n) => say_form(number, LISTED, n, list),
-        Compared::Refused(n) => say_form(number, REFUSED, n as usize, list),
+        Compared::Listed(n) => say_form(rt, number, LISTED, n, list),
+        Compared::Refused(n) => say_form(rt, number, REFUSED, n as usize, list),
     }
 }
 
 // A frame has no list.
-fn say_heard(number: usize, form: usize, n: usize) {
-    say_form(number, form, n, b"");
+fn say_heard(rt: &impl Print, number: usize, form: usize, n: usize) -> io::Result<()> {
+    say_form(rt, number, form, n, b"")
 }
 
-pub(crate) fn say_reply(number: usize, reply: Reply) {
+pub(crate) fn say_reply(rt: &impl Print, number: usize, reply: Reply) -> io::Result<()> {
     match reply {
-        Reply::Recorded => say_heard(number, RECORDED, 0),
-        Reply::Refreshed => say_heard(number, REFRESHED, 0),
-        Reply::Gone => say_heard(number, GONE, 0),
-        Reply::UnknownGoodbye => say_heard(number, UNKNOWN_GOODBYE, 0),
-        Reply::Refused(n) => say_heard(number, REFUSED, n as usize),
+        Reply::Recorded => say_heard(rt, number, RECORDED, 0),
+        Reply::Refreshed => say_heard(rt, number, REFRESHED, 0),
+        Reply::Gone => say_heard(rt, number, GONE, 0),
+        Reply::UnknownGoodbye => say_heard(rt, number, UNKNOWN_GOODBYE, 0),
+        Reply::Refused(n) => say_heard(rt, number, REFUSED, n as usize),
     }
 }

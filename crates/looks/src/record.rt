@@ -9,7 +9,7 @@ const HEAD: usize = 16;
 // More octets than the file has.
 pub(crate) const FILE: usize = 2000000;
 
-#[derive(Drop)]
+#[derive(Clone, Copy)]
 pub(crate) struct Record {
     pub(crate) kind: u8,
     pub(crate) side: u8,

@@ -1,5 +1,7 @@
 // An open file, read once, in pieces that are fed to two looks (C9, J4) until it is over or neither wants more.
 // A read that fails is no end of the file: it is told apart, and what was answered then counts for nothing.
+#![tactic(auto)]
+
 ghost use Rattle.std.specs.Prelude.{◌≡◌, ◌<◌, length};
 ghost use Rattle.place.specs.State.{state};
 ghost use Rattle.replay.specs.Place.{room_octets};
@@ -12,16 +14,20 @@ pub use looks::between;
 use numbers::Table;
 use progress::{Progress, end, nothing_read, read_more};
 use replay::{Fed, ROOM, Replayed, begin, feed, finish, wants_more};
+use std::io::Read;
+
+// As many octets as one read asks for.
+const PIECE: usize = 65536;
 
 // What a look begins with: its table, and the limit of its replay.
-#[derive(Drop)]
+#[derive(Clone, Copy)]
 pub struct Look {
     pub table: Table,
     pub limit: usize,
 }
 
 // How the reading goes on from here: there may be more, all that counts was read, or a read failed.
-#[derive(Drop)]
+#[derive(Clone, Copy)]
 enum Course {
     On,
     Over,
@@ -29,7 +35,7 @@ enum Course {
 }
 
 // The two replays behind what was read, and the tables that their calls left.
-#[derive(Drop)]
+#[derive(Clone, Copy)]
 struct Step {
     first: Fed,
     second: Fed,
@@ -38,13 +44,13 @@ struct Step {
 }
 
 // What a replay answered at the end of the file, and the table that it left.
-#[derive(Drop)]
+#[derive(Clone, Copy)]
 pub struct Seen {
     pub answer: Replayed,
     pub table: Table,
 }
 
-#[derive(Drop)]
+#[derive(Clone, Copy)]
 pub struct Played {
     pub first: Seen,
     pub second: Seen,
@@ -89,13 +95,15 @@ fn on_if(more: bool) -> Course {
     if more { Course::On } else { Course::Over }
 }
 
-fn over_if(at_end: bool) -> Course {
-    if at_end { Course::Over } else { Course::Failed }
+// The octets of a read. They are a call's result so that no proof has to count them.
+fn piece_room() -> [u8; PIECE] {
+    [0; PIECE]
 }
 
 // Reads once, and feeds what came to both. One that wants no more passes it over (C6).
 fn read_some(
-    fd: i32,
+    rt: &impl Eprint,
+    file: &mut impl Read,
     s: Step,
     before: &mut [u8],
     room: &mut [u8],
@@ -107,23 +115,32 @@ fn read_some(
     let first = s.first;
     let second = s.second;
     let progress = s.progress;
-    let mut piece = io::large_buffer();
-    let got = libc::read(fd, &mut piece);
-    if got <= 0 {
+    let mut piece = piece_room();
+    let n = match file.read(&mut piece) {
+        Ok(n) => n,
+        Err(_) => {
+            return Step {
+                first: first,
+                second: second,
+                progress: progress,
+                course: Course::Failed,
+            };
+        }
+    };
+    if n == 0 {
         return Step {
             first: first,
             second: second,
             progress: progress,
-            course: over_if(got == 0),
+            course: Course::Over,
         };
     }
-    let n = io::count(got, &piece);
     let one = go_on(first, before, room, &piece[..n]);
     let other = go_on(second, after, space, &piece[..n]);
     Step {
         first: one,
         second: other,
-        progress: read_more(progress, n),
+        progress: read_more(rt, progress, n),
         course: on_if(is_wanting(one) | is_wanting(other)),
     }
 }
@@ -150,7 +167,8 @@ fn is_over(c: Course) -> bool {
 
 // The whole file, with a record buffer for each look.
 fn play_in(
-    fd: i32,
+    rt: &impl Eprint,
+    file: &mut impl Read,
     port: usize,
     first: Look,
     before: &mut [u8],
@@ -172,7 +190,7 @@ fn play_in(
     };
     let mut turns = u64::MAX;
     while turns > 0 {
-        s = read_some(fd, s, before, room, after, space);
+        s = read_some(rt, file, s, before, room, after, space);
         let course = s.course;
         turns = turns_left(course, turns);
     }
@@ -180,7 +198,7 @@ fn play_in(
     let other = s.second;
     let course = s.course;
     let progress = s.progress;
-    end(progress);
+    end(rt, progress);
     Played {
         first: ended(one),
         second: ended(other),
@@ -191,7 +209,8 @@ fn play_in(
 // The whole file. There are octets, the same for both looks, of which the rules give these answers and these tables (C2 to C9); that they are those of
 // the file, all of them and in order, no contract can say, since none says what a read gives. It is tested.
 pub fn play(
-    fd: i32,
+    rt: &impl Eprint,
+    file: &mut impl Read,
     port: usize,
     first: Look,
     before: &mut [u8],
@@ -204,7 +223,8 @@ pub fn play(
     let mut room = [0u8; ROOM];
     let mut space = [0u8; ROOM];
     play_in(
-        fd,
+        rt,
+        file,
         port,
         first,
         before,

@@ -1,14 +1,10 @@
 // How far a large file has been read, on standard error (J3): from 8 MiB on, at every further MiB.
 // Where nobody wants to know, the octets are counted and nothing is written.
-use forms::put_form;
-use libc::STDERR_FILENO;
-use text::{Part, text_of};
-
 const MIB: usize = 1048576;
 
 const FIRST: usize = 8;
 
-#[derive(Drop)]
+#[derive(Clone, Copy)]
 pub(crate) struct Progress {
     pub(crate) wanted: bool,
     pub(crate) octets: usize,
@@ -21,25 +17,22 @@ pub(crate) fn nothing_read(wanted: bool) -> Progress {
     }
 }
 
-// The line goes over the one before it.
-fn say(octets: usize) {
-    let mut line = [0u8; 32];
-    let form = b"\r# octets";
-    let end = put_form(&mut line, 0, form, 1, &[octets], form);
-    io::write_all(STDERR_FILENO, text_of(&line, Part { start: 0, len: end }));
+// The line goes over the one before it. Progress is not the answer: where standard error does not take it, the reading goes on.
+fn say(rt: &impl Eprint, octets: usize) {
+    let _ = eprint!(rt; "\r{octets} octets");
 }
 
-fn say_passed(before: usize, octets: usize) {
+fn say_passed(rt: &impl Eprint, before: usize, octets: usize) {
     if octets / MIB < FIRST {
         return;
     }
     if before / MIB < octets / MIB {
-        say(octets);
+        say(rt, octets);
     }
 }
 
 // So many octets more have been read. The sum stops at the greatest number.
-pub(crate) fn read_more(p: Progress, n: usize) -> Progress {
+pub(crate) fn read_more(rt: &impl Eprint, p: Progress, n: usize) -> Progress {
     let before = p.octets;
     let octets = if n < usize::MAX - before {
         before + n
@@ -47,7 +40,7 @@ pub(crate) fn read_more(p: Progress, n: usize) -> Progress {
         usize::MAX
     };
     if p.wanted {
-        say_passed(before, octets);
+        say_passed(rt, before, octets);
     }
     Progress {
         wanted: p.wanted,
@@ -56,10 +49,10 @@ pub(crate) fn read_more(p: Progress, n: usize) -> Progress {
 }
 
 // The last line is ended, where there was one.
-pub(crate) fn end(p: Progress) {
+pub(crate) fn end(rt: &impl Eprint, p: Progress) {
     if p.wanted {
         if p.octets / MIB >= FIRST {
-            io::write_all(STDERR_FILENO, b"\n");
+            let _ = eprintln!(rt;);
         }
     }
 }

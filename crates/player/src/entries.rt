@@ -11,6 +11,7 @@ use numbers::{PLACES, Table};
 use octets::octet;
 use place::{lldpdu_at, place_of};
 use play::{Seen, between};
+use std::io;
 
 // No list has more entries (D4).
 const MOST: usize = LONGEST / ENTRY;
@@ -31,7 +32,15 @@ fn put_seconds(line: &mut [u8], at: usize, seconds: u16) -> usize {
 }
 
 // The record in place i of its table, with its seconds in the first and in the second. The words are in the order of the kinds (D1).
-fn show_change(kind: u8, t: Table, buffer: &[u8], i: usize, was: u16, is: u16) -> bool
+fn show_change(
+    rt: &impl Print,
+    kind: u8,
+    t: Table,
+    buffer: &[u8],
+    i: usize,
+    was: u16,
+    is: u16,
+) -> io::Result<()>
     requires { i < places }
 {
     let mut line = [0u8; LINE];
@@ -47,58 +56,64 @@ fn show_change(kind: u8, t: Table, buffer: &[u8], i: usize, was: u16, is: u16) -
     let b = put_seconds(&mut line, a, was);
     let c = put_seconds(&mut line, b, is);
     let end = put_neighbour(&mut line, c, t, buffer, i);
-    say(&line, end)
+    say(rt, &line, end)
 }
 
 // An entry names a place of the first table where its record left, and else of the second (D1).
 fn show_entry(
+    rt: &impl Print,
     kind: u8,
     i: usize,
     first: Table,
     before: &[u8],
     second: Table,
     after: &[u8],
-) -> bool {
+) -> io::Result<()> {
     if i >= PLACES {
-        return true;
+        return Ok(());
     }
     if kind == LEFT {
-        return show_change(kind, first, before, i, first.seconds[i], 0);
+        return show_change(rt, kind, first, before, i, first.seconds[i], 0);
     }
     let l = lldpdu_at(after, i, second.length[i]);
     let was = seconds_in(first, before, second.port[i], l);
-    show_change(kind, second, after, i, was, second.seconds[i])
+    show_change(rt, kind, second, after, i, was, second.seconds[i])
 }
 
 fn show_entries(
+    rt: &impl Print,
     n: usize,
     list: &[u8],
     first: Table,
     before: &[u8],
     second: Table,
     after: &[u8],
-) -> bool {
+) -> io::Result<()> {
     for k in 0..MOST {
         if k >= n {
-            return true;
+            break;
         }
         let kind = octet(list, k * ENTRY);
         let place = octet(list, k * ENTRY + 1) as usize;
-        if !show_entry(kind, place, first, before, second, after) {
-            return false;
-        }
+        show_entry(rt, kind, place, first, before, second, after)?;
     }
-    true
+    Ok(())
 }
 
 // Two looks.
-pub(crate) fn show_changes(first: Seen, before: &[u8], second: Seen, after: &[u8]) -> bool {
+pub(crate) fn show_changes(
+    rt: &impl Print,
+    first: Seen,
+    before: &[u8],
+    second: Seen,
+    after: &[u8],
+) -> io::Result<()> {
     let mut list = [0u8; LONGEST];
     let answer = between(first, before, second, after, &mut list);
     let t = first.table;
     let u = second.table;
     match answer {
-        Compared::Listed(n) => show_entries(n, &list, t, before, u, after),
-        Compared::Refused(n) => say_refusal(n),
+        Compared::Listed(n) => show_entries(rt, n, &list, t, before, u, after),
+        Compared::Refused(n) => say_refusal(rt, n),
     }
 }

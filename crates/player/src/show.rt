@@ -1,15 +1,15 @@
 // What a look at a capture is printed as: a line for each used place of its table (J3), a line for each change between two (J4), or the refusal.
-// Each function answers whether standard output took all of it; behind a line that it did not take there is none.
+// Where standard output does not take a line, that is the answer of each function, and behind that line there is none.
 ghost use Rattle.std.specs.Prelude.{◌<◌};
 ghost use Rattle.numbers.specs.Sizes.{places};
 
 use forms::put_form;
-use libc::STDOUT_FILENO;
 use lldpdu::{chassis_of, port_of};
 use numbers::{PLACES, Table};
 use place::lldpdu_at;
 use play::Seen;
 use replay::Replayed;
+use std::io;
 use text::{Part, text_of};
 
 // More than the longest line, which has 879 octets (J4): seven for the word, two for the port, five for the seconds in each table, 70 for a local
@@ -17,15 +17,15 @@ use text::{Part, text_of};
 pub(crate) const LINE: usize = 1024;
 
 // The front of a line, up to where it ends.
-pub(crate) fn say(line: &[u8], end: usize) -> bool {
-    io::write_all(STDOUT_FILENO, text_of(line, Part { start: 0, len: end }))
+pub(crate) fn say(rt: &impl Print, line: &[u8], end: usize) -> io::Result<()> {
+    rt.write_all(text_of(line, Part { start: 0, len: end }))
 }
 
-pub(crate) fn say_refusal(n: u8) -> bool {
+pub(crate) fn say_refusal(rt: &impl Print, n: u8) -> io::Result<()> {
     let mut line = [0u8; LINE];
     let form = b"refused #\n";
     let end = put_form(&mut line, 0, form, 1, &[n as usize], form);
-    say(&line, end)
+    say(rt, &line, end)
 }
 
 // A call of its own, so that the number of octets is known.
@@ -55,35 +55,33 @@ pub(crate) fn put_neighbour(line: &mut [u8], at: usize, t: Table, buffer: &[u8],
 }
 
 // Port and seconds left, then the neighbour; of a free place nothing.
-fn show_place(t: Table, buffer: &[u8], i: usize) -> bool
+fn show_place(rt: &impl Print, t: Table, buffer: &[u8], i: usize) -> io::Result<()>
     requires { i < places }
 {
     if t.length[i] == 0 {
-        return true;
+        return Ok(());
     }
     let mut line = [0u8; LINE];
     let form = b"# # ";
     let values = [t.port[i] as usize, t.seconds[i] as usize];
     let at = put_form(&mut line, 0, form, 1, &values, form);
     let end = put_neighbour(&mut line, at, t, buffer, i);
-    say(&line, end)
+    say(rt, &line, end)
 }
 
-fn show_places(t: Table, buffer: &[u8]) -> bool {
+fn show_places(rt: &impl Print, t: Table, buffer: &[u8]) -> io::Result<()> {
     for i in 0..PLACES {
-        if !show_place(t, buffer, i) {
-            return false;
-        }
+        show_place(rt, t, buffer, i)?;
     }
-    true
+    Ok(())
 }
 
 // One look (J3).
-pub(crate) fn show_table(seen: Seen, buffer: &[u8]) -> bool {
+pub(crate) fn show_table(rt: &impl Print, seen: Seen, buffer: &[u8]) -> io::Result<()> {
     let answer = seen.answer;
     let table = seen.table;
     match answer {
-        Replayed::Handed(_) => show_places(table, buffer),
-        Replayed::Refused(n) => say_refusal(n),
+        Replayed::Handed(_) => show_places(rt, table, buffer),
+        Replayed::Refused(n) => say_refusal(rt, n),
     }
 }

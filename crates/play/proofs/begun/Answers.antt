@@ -3,19 +3,12 @@
 use mathlib.Core.Path.{refl}
 use borrow.Author.Rules.{rules}
 use Rattle.text.proofs.PartsLaws.{length-mapped}
-use Rattle.play.proofs.begun.Statement.{statement}
-use Rattle.play.proofs.begun.Tie as tie
+use Rattle.play.proofs.begun.Goals as goal
 
-begin-requires : tie.Need-begin-requires
-begin-requires c κs = search rules
-
-returns : tie.Need-returns
+pub returns : goal.returns
 returns c =
     record {
       listed = record { ports_long = search rules; seconds_long = search rules; lengths_long = search rules; senders_long = search (rules, length-mapped) };
       place = c.begin.ensures;
       table = refl;
     }
-
-pub begun-spec : {M : Type 1} → statement M
-begun-spec = tie.close (tie.spec begin-requires returns)
