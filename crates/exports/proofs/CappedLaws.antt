@@ -13,7 +13,7 @@ use lib.Dec.{leb, eqb}
 use lib.ListN.{get_or, set, get_or-eq_default}
 use Rattle.tally.specs.Tests.{pick}
 use Rattle.tally.specs.Tab.{tab}
-use Rattle.tally.proofs.TabLaws.{length-tab, getD-tab}
+use Rattle.tally.proofs.TabLaws.{length-tab, get_or-tab}
 use Rattle.octets.specs.Numbers.{pair_of}
 use Rattle.numbers.specs.Sizes.{places}
 use Rattle.place.specs.State.{Place, State, at, put, each, change_at}
@@ -82,6 +82,6 @@ unfolding table_in
 seconds-small x f j =
     let number : ℕ → ℕ = λ i. pair_of (get_or x.seconds (2 * i) 0) (get_or x.seconds (2 * i + 1) 0) in
     elim (dec_lt j places) [
-      | yes l ↦ let e : get_or (tab places number) j 0 ≡ number j = getD-tab places number j 0 l in omega (arith, e, f (2 * j), f (2 * j + 1))
+      | yes l ↦ let e : get_or (tab places number) j 0 ≡ number j = get_or-tab places number j 0 l in omega (arith, e, f (2 * j), f (2 * j + 1))
       | no l ↦ let e : get_or (tab places number) j 0 ≡ 0 = get_or-eq_default (tab places number) 0 {n = j} (omega (arith, length-tab places number)) in omega (arith, e)
     ]

@@ -26,8 +26,7 @@ fn refusal_of(a: Answer) -> u8
 }
 
 // Refusal 1.
-#[unsafe(no_mangle)]
-pub extern "C" fn tambolune_start(
+pub fn tambolune_start(
     ports: &mut [u8],
     seconds: &mut [u8],
     lengths: &mut [u8],
@@ -47,8 +46,7 @@ pub extern "C" fn tambolune_start(
 }
 
 // Refusals 1 to 8, 13.
-#[unsafe(no_mangle)]
-pub extern "C" fn tambolune_frame_on_port(
+pub fn tambolune_frame_on_port(
     ports: &mut [u8],
     seconds: &mut [u8],
     lengths: &mut [u8],
@@ -88,8 +86,7 @@ fn capped(seconds: usize) -> u16
 }
 
 // Refusal 1.
-#[unsafe(no_mangle)]
-pub extern "C" fn tambolune_seconds_passed(
+pub fn tambolune_seconds_passed(
     ports: &mut [u8],
     seconds: &mut [u8],
     lengths: &mut [u8],
@@ -114,8 +111,7 @@ pub extern "C" fn tambolune_seconds_passed(
 }
 
 // Refusals 1 and 2.
-#[unsafe(no_mangle)]
-pub extern "C" fn tambolune_link_lost(
+pub fn tambolune_link_lost(
     ports: &mut [u8],
     seconds: &mut [u8],
     lengths: &mut [u8],
@@ -136,8 +132,7 @@ pub extern "C" fn tambolune_link_lost(
 }
 
 // Refusals 1 and 2.
-#[unsafe(no_mangle)]
-pub extern "C" fn tambolune_how_many(
+pub fn tambolune_how_many(
     ports: &[u8],
     seconds: &[u8],
     lengths: &[u8],
@@ -156,8 +151,7 @@ pub extern "C" fn tambolune_how_many(
 }
 
 // Refusal 1.
-#[unsafe(no_mangle)]
-pub extern "C" fn tambolune_who_sees(
+pub fn tambolune_who_sees(
     ports: &[u8],
     seconds: &[u8],
     lengths: &[u8],

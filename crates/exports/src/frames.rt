@@ -12,16 +12,14 @@ use writer::write;
 const BREAKS_A_RULE: u8 = 9;
 
 // Refusals 1, 3 to 6.
-#[unsafe(no_mangle)]
-pub extern "C" fn tambolune_judge(frame: &[u8], answer: &mut [u8]) -> u8
+pub fn tambolune_judge(frame: &[u8], answer: &mut [u8]) -> u8
     ensures { Judges frame.now answer.old answer.new result }
 {
     answer_judged(answer, read_frame(frame))
 }
 
 // Refusals 1, 3 to 6.
-#[unsafe(no_mangle)]
-pub extern "C" fn tambolune_read(frame: &[u8], answer: &mut [u8], description: &mut [u8]) -> u8
+pub fn tambolune_read(frame: &[u8], answer: &mut [u8], description: &mut [u8]) -> u8
     ensures { TellsFrame frame.now answer.old description.old answer.new description.new result }
 {
     answer_reading(answer, description, read_frame(frame))
@@ -31,12 +29,7 @@ pub extern "C" fn tambolune_read(frame: &[u8], answer: &mut [u8], description: &
 const LOOKED_AT: usize = 65535;
 
 // Refusals 1, 4 to 6.
-#[unsafe(no_mangle)]
-pub extern "C" fn tambolune_read_lldpdu(
-    lldpdu: &[u8],
-    answer: &mut [u8],
-    description: &mut [u8],
-) -> u8
+pub fn tambolune_read_lldpdu(lldpdu: &[u8], answer: &mut [u8], description: &mut [u8]) -> u8
     ensures { TellsLldpdu lldpdu.now answer.old description.old answer.new description.new result }
 {
     let front = text_of(
@@ -50,13 +43,7 @@ pub extern "C" fn tambolune_read_lldpdu(
 }
 
 // Refusals 1, 9, 10. The answer's length is tested before anything is written (X2).
-#[unsafe(no_mangle)]
-pub extern "C" fn tambolune_write(
-    description: &[u8],
-    text: &[u8],
-    output: &mut [u8],
-    answer: &mut [u8],
-) -> u8
+pub fn tambolune_write(description: &[u8], text: &[u8], output: &mut [u8], answer: &mut [u8]) -> u8
     ensures { Writes description.now text.now output.old answer.old output.new answer.new result }
 {
     if description.len() != SIZE {

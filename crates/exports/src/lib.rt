@@ -1,5 +1,7 @@
 // The calls from C (X1): each takes numbers and lent slices of octets, and returns a refusal number, 0 where there is none.
 // They are thin: the call that a caller of ours has is made on what the octets mean, and nothing is stored before every length is known to be right.
+#![tactic(auto)]
+
 mod calls;
 mod frames;
 mod looks;

@@ -8,8 +8,7 @@ use octet_answers::{COMPARED, WRONG_LENGTH, answer_compared};
 use octet_table::{lengths_fit, table_in};
 
 // Refusals 1 and 14. The answer's length is tested before anything is written (X2).
-#[unsafe(no_mangle)]
-pub extern "C" fn tambolune_compare(
+pub fn tambolune_compare(
     ports: &[u8],
     seconds: &[u8],
     lengths: &[u8],

@@ -16,120 +16,103 @@ use octet_table::{NUMBERS, SENDERS};
 use place::OCTETS;
 use reader::HEADER;
 
-#[unsafe(no_mangle)]
-pub extern "C" fn tambolune_size_ports() -> usize
+pub fn tambolune_size_ports() -> usize
     ensures { result ≡ ports }
 {
     PORTS
 }
 
-#[unsafe(no_mangle)]
-pub extern "C" fn tambolune_size_places() -> usize
+pub fn tambolune_size_places() -> usize
     ensures { result ≡ places }
 {
     PLACES
 }
 
-#[unsafe(no_mangle)]
-pub extern "C" fn tambolune_size_place() -> usize
+pub fn tambolune_size_place() -> usize
     ensures { result ≡ size }
 {
     place::SIZE
 }
 
-#[unsafe(no_mangle)]
-pub extern "C" fn tambolune_size_buffer() -> usize
+pub fn tambolune_size_buffer() -> usize
     ensures { result ≡ octets }
 {
     OCTETS
 }
 
-#[unsafe(no_mangle)]
-pub extern "C" fn tambolune_size_numbers() -> usize
+pub fn tambolune_size_numbers() -> usize
     ensures { result ≡ numbers_long }
 {
     NUMBERS
 }
 
-#[unsafe(no_mangle)]
-pub extern "C" fn tambolune_size_senders() -> usize
+pub fn tambolune_size_senders() -> usize
     ensures { result ≡ senders_len }
 {
     SENDERS
 }
 
-#[unsafe(no_mangle)]
-pub extern "C" fn tambolune_size_address() -> usize
+pub fn tambolune_size_address() -> usize
     ensures { result ≡ address_long }
 {
     ADDRESS
 }
 
-#[unsafe(no_mangle)]
-pub extern "C" fn tambolune_size_description() -> usize
+pub fn tambolune_size_description() -> usize
     ensures { result ≡ description_long }
 {
     octet_description::SIZE
 }
 
-#[unsafe(no_mangle)]
-pub extern "C" fn tambolune_size_judged() -> usize
+pub fn tambolune_size_judged() -> usize
     ensures { result ≡ judged_long }
 {
     JUDGED
 }
 
-#[unsafe(no_mangle)]
-pub extern "C" fn tambolune_size_verdict() -> usize
+pub fn tambolune_size_verdict() -> usize
     ensures { result ≡ verdict_long }
 {
     VERDICT
 }
 
-#[unsafe(no_mangle)]
-pub extern "C" fn tambolune_size_written() -> usize
+pub fn tambolune_size_written() -> usize
     ensures { result ≡ written_long }
 {
     WRITTEN
 }
 
-#[unsafe(no_mangle)]
-pub extern "C" fn tambolune_size_reply() -> usize
+pub fn tambolune_size_reply() -> usize
     ensures { result ≡ reply_long }
 {
     REPLY
 }
 
-#[unsafe(no_mangle)]
-pub extern "C" fn tambolune_size_count() -> usize
+pub fn tambolune_size_count() -> usize
     ensures { result ≡ count_long }
 {
     COUNT
 }
 
-#[unsafe(no_mangle)]
-pub extern "C" fn tambolune_size_sight() -> usize
+pub fn tambolune_size_sight() -> usize
     ensures { result ≡ sight_long }
 {
     SIGHT
 }
 
-#[unsafe(no_mangle)]
-pub extern "C" fn tambolune_size_compared() -> usize
+pub fn tambolune_size_compared() -> usize
     ensures { result ≡ compared_long }
 {
     COMPARED
 }
 
-#[unsafe(no_mangle)]
-pub extern "C" fn tambolune_size_entry() -> usize
+pub fn tambolune_size_entry() -> usize
     ensures { result ≡ 2 }
 {
     ENTRY
 }
 
-#[unsafe(no_mangle)]
-pub extern "C" fn tambolune_size_header() -> usize
+pub fn tambolune_size_header() -> usize
     ensures { result ≡ 14 }
 {
     HEADER
