@@ -1,5 +1,7 @@
 // The announcement of a description, put TLV by TLV, each behind the one before it (W1).
 // Every function answers the place behind its octets; what does not fit, and what no octet can count, is left out.
+#![tactic(auto)]
+
 ghost use Rattle.std.specs.Prelude.{◌≡◌, map};
 ghost use Rattle.output.specs.Output.{output_at, puts};
 ghost use Rattle.reading.specs.Meaning.{link_meant, said_by};

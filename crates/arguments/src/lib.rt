@@ -1,5 +1,7 @@
 // What the words say that a program is started with (J3): a number in decimal digits.
 // Every word has an answer: a number that is too large, and a word that is no number, is the greatest number that there is.
+#![tactic(auto)]
+
 ghost use Rattle.std.specs.Prelude.{◌≡◌};
 ghost use Rattle.arguments.specs.Number.{with_digit, number_in};
 

@@ -1,5 +1,7 @@
 // A capture in the classic pcap layout (C1, C2): its numbers in either order, the file header, the header of a record.
 // Every function takes any octets; where a header is not all there, what is missing reads as 0.
+#![tactic(auto)]
+
 ghost use Rattle.std.specs.Prelude.{◌≡◌, [], ◌∷◌, ◌<◌};
 ghost use Rattle.octets.specs.Numbers.{value_of};
 ghost use Rattle.capture.specs.Layout.{word, opens, layout_of, stamp, captured, original};
@@ -12,7 +14,7 @@ const MAGIC: u32 = 0xA1B2C3D4;
 const ETHERNET: u32 = 1;
 
 // What a file header says of the numbers of the file, or that the file is refused with 11.
-#[derive(Drop)]
+#[derive(Clone, Copy)]
 pub enum Layout {
     HighFirst,
     LowFirst,

@@ -1,5 +1,7 @@
 // What changed between two looks at a table (D1 to D4): each change once, as entries of two octets at the front of a lent list.
 // The second table's buffer is `buffer2`. Neither table is written, and nothing is put into the list before it is known to be long enough (Q2).
+#![tactic(auto)]
+
 ghost use Rattle.std.specs.Prelude.{◌≡◌, ◌<◌, [], ◌∷◌, leb};
 ghost use Rattle.tally.specs.Tests.{pick, both};
 ghost use Rattle.octets.specs.Address.{same_octets};
@@ -35,7 +37,7 @@ pub const LONGEST: usize = 2 * PLACES * ENTRY;
 // The refusal of a list that is too short (R14).
 const TOO_SHORT: u8 = 14;
 
-#[derive(Drop)]
+#[derive(Clone, Copy)]
 pub enum Compared {
     Listed(usize),
     Refused(u8),

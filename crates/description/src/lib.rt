@@ -1,5 +1,7 @@
 // Whether what a description says keeps the rules (W2, W3, W5, W7), by the number of octets of each part, and of some by the octets.
 // One function to a rule; any description and any text get an answer, and where the parts lie is not asked here.
+#![tactic(auto)]
+
 ghost use Rattle.std.specs.Prelude.{◌≡◌, [], length};
 ghost use Rattle.tally.specs.Tests.{all, is_none};
 ghost use Rattle.text.specs.Part.{text_of, optional_text};

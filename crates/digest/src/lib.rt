@@ -1,5 +1,7 @@
 // The digest of a table with its buffer: one number of 32 bits, which the tests print where a table is too long to print.
 // It goes over the ports, the seconds, the lengths, the senders and then every octet of the buffer.
+#![tactic(auto)]
+
 ghost use Rattle.std.specs.Prelude.{◌≡◌};
 ghost use Rattle.digest.specs.Digest.{mixed, mixed_all, mixed_senders, digest_of};
 

@@ -1,5 +1,7 @@
 // Extension link information (T11): whether its octets are well formed, what they say where they are asked (A6), and whether
 // they name an address (A4). The octets are its content, n to the last item; any octets get an answer, and nothing is copied.
+#![tactic(auto)]
+
 ghost use Rattle.std.specs.Prelude.{◌≡◌, ◌+◌, ◌*◌, ◌^◌, ◌<◌, ◌≤◌, drop};
 ghost use Rattle.text.specs.Part.{nowhere};
 ghost use Rattle.extension.specs.Runs.{span};
@@ -37,7 +39,7 @@ pub const ASSOCIATED_DEVICES: usize = 1;
 pub const ACTIVE_NODES: usize = 2;
 
 // Interface type and port number, and p, k, c, q and d (T11).
-#[derive(Drop)]
+#[derive(Clone, Copy)]
 pub struct Counts {
     pub interface: Part,
     pub port: Part,
@@ -49,7 +51,7 @@ pub struct Counts {
 }
 
 // Where the addresses with their items begin, and p, k and c, which stand before them.
-#[derive(Drop)]
+#[derive(Clone, Copy)]
 struct Opening {
     at: usize,
     width: u8,
@@ -58,7 +60,7 @@ struct Opening {
 }
 
 // Where the pairing addresses begin, and d and q, which stand before them.
-#[derive(Drop)]
+#[derive(Clone, Copy)]
 struct Closing {
     at: usize,
     portitems: u8,

@@ -1,5 +1,7 @@
 // Fields: what one TLV behind the first three says, from its own information string and nothing behind it.
 // Port description (type 4), system fields (types 5 to 8) and the TTC fields of subtypes 1 to 4; everything else is skipped.
+#![tactic(auto)]
+
 ghost use Rattle.std.specs.Prelude.{◌≡◌};
 ghost use Rattle.tally.specs.Tests.{pick};
 ghost use Rattle.fields.specs.Device.{device_of};
@@ -43,7 +45,7 @@ pub const MANAGEMENT: usize = TOPICS;
 
 // What a TLV says: nothing that is read here, something that is not well formed, or the content of a topic,
 // which is its information string without the first `skip` octets.
-#[derive(Drop)]
+#[derive(Clone, Copy)]
 pub enum Field {
     Skipped,
     Malformed,

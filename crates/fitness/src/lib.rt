@@ -1,5 +1,7 @@
 // Whether a table is fit (N5): buffer length, shares, every place by itself, no identity twice, no chassis above three on a port; in the order of their cost.
 // Any table and any buffer get an answer.
+#![tactic(auto)]
+
 ghost use Rattle.std.specs.Prelude.{◌≡◌};
 ghost use Rattle.place.specs.State.{state};
 ghost use Rattle.fitness.specs.Fit.{fit};

@@ -1,5 +1,7 @@
 // Forms of what is printed: words with marks in them, which numbers and octets of a text are filled in for.
 // A form is chosen by its number among several; any forms, values and text get their line.
+#![tactic(auto)]
+
 ghost use Rattle.std.specs.Prelude.{◌≡◌, drop, get_or};
 ghost use Rattle.output.specs.Output.{output_at, puts};
 ghost use Rattle.forms.specs.Form.{stands_for, values_taken, forms_left, formed};

@@ -1,5 +1,7 @@
 // What the TLVs behind the first three say, gathered in one pass: for each topic how often and where first,
 // and where the management addresses are. A content is remembered as its place in the LLDPDU, so that nothing is copied.
+#![tactic(auto)]
+
 ghost use Rattle.std.specs.Prelude.{◌≡◌, drop};
 ghost use Rattle.fields.specs.Field.{field_of};
 ghost use Rattle.walk.specs.Walk.{walk};
@@ -11,7 +13,7 @@ use walk::{Extent, Step, step_at};
 
 // What was met of a topic: how often, up to twice, and where its first content lies. The count is as wide as the rest, since
 // a gap behind a narrow one is copied octet by octet.
-#[derive(Drop)]
+#[derive(Clone, Copy)]
 pub struct Mark {
     pub times: usize,
     pub start: usize,
@@ -19,7 +21,7 @@ pub struct Mark {
 }
 
 // The flag stands last, where no gap behind it comes before anything else.
-#[derive(Drop)]
+#[derive(Clone, Copy)]
 pub struct Found {
     pub marks: [Mark; fields::TOPICS],
     pub management: Parts,
@@ -27,7 +29,7 @@ pub struct Found {
 }
 
 // The walk behind the first three TLVs: where it ends or why it is refused, and what was found on the way.
-#[derive(Drop)]
+#[derive(Clone, Copy)]
 pub struct Survey {
     pub extent: Extent,
     pub found: Found,

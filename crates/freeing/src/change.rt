@@ -14,14 +14,14 @@ use numbers::{PLACES, PORTS, Sender, Table};
 use place::SIZE;
 use whole::clear;
 
-#[derive(Drop)]
+#[derive(Clone, Copy)]
 pub(crate) enum Change {
     Age(u16),
     Lose(u8),
 }
 
 // What becomes of a place: it is freed, or it stays with so many seconds left.
-#[derive(Drop)]
+#[derive(Clone, Copy)]
 enum Fate {
     Goes,
     Stays(u16),

@@ -1,5 +1,7 @@
 // The calls that take records away: Start (N6), seconds passed (N8), link lost (N9). They answer done, or a refusal.
 // Start judges the buffer's length alone: the table that is handed in need not be fit.
+#![tactic(auto)]
+
 ghost use Rattle.std.specs.Prelude.{◌≡◌};
 ghost use Rattle.place.specs.State.{state, empty};
 ghost use Rattle.freeing.specs.Calls.{refused_outcome, Does, started, refusal_at_start};
@@ -12,13 +14,13 @@ use numbers::{PLACES, Sender, Table};
 use place::OCTETS;
 use whole::clear;
 
-#[derive(Drop)]
+#[derive(Clone, Copy)]
 pub enum Answer {
     Done,
     Refused(u8),
 }
 
-#[derive(Drop)]
+#[derive(Clone, Copy)]
 pub struct Outcome {
     pub table: Table,
     pub answer: Answer,

@@ -1,5 +1,7 @@
 // A frame on a port (N7): recorded, refreshed, gone, unknown goodbye, or refused with its number.
 // Refusals are decided front to back before the first store (Q1, Q2).
+#![tactic(auto)]
+
 ghost use Rattle.std.specs.Prelude.{◌≡◌, ◌≤◌, ◌<◌, true, length};
 ghost use Rattle.ids.specs.Id.{id_meant};
 ghost use Rattle.walk.specs.declared.Extent.TheVariants.{Octets};
@@ -27,7 +29,7 @@ const COMMON_TAKEN: u8 = 8;
 
 const CHASSIS_LOUD: u8 = 13;
 
-#[derive(Drop)]
+#[derive(Clone, Copy)]
 pub struct Reception {
     pub table: Table,
     pub reply: Reply,

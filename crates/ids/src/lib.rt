@@ -1,5 +1,7 @@
 // The ID of a chassis or of a port: a subtype, and octets that are a part of a text (L3, L4).
 // One shape serves both, wherever an ID is judged or compared; any text and any part get an answer.
+#![tactic(auto)]
+
 ghost use Rattle.std.specs.Prelude.{◌≡◌, length, get_or};
 ghost use Rattle.tally.specs.Tests.{all};
 ghost use Rattle.tally.specs.Ranges.{all_below};
@@ -8,7 +10,7 @@ ghost use Rattle.ids.specs.Id.{id, id_meant, address_ok, digit_ok, local_rules, 
 use text::{Part, text_of};
 use whole::same;
 
-#[derive(Drop)]
+#[derive(Clone, Copy)]
 pub struct IdPart {
     pub subtype: u8,
     pub octets: Part,

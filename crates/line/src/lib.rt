@@ -1,5 +1,7 @@
 // What is printed (J2): numbers in decimal, octets in hex and a chassis, put into a lent line.
 // Every function takes any line and any place, answers the place behind what it put, and leaves out what does not fit.
+#![tactic(auto)]
+
 ghost use Rattle.std.specs.Prelude.{◌≡◌, ◌∷◌, ◌<◌};
 ghost use Rattle.output.specs.Output.{output_at, puts};
 ghost use Rattle.line.specs.Hex.{digit_of, hex_of, hexes_or_stop, joined, chassis_shown};

@@ -1,5 +1,7 @@
 // Link information (T7): whether an information string is well formed as one, and whether it names an address (A4).
 // They look at one information string and at nothing behind it; any octets get an answer. `among` asks the same of a row of addresses in any octets.
+#![tactic(auto)]
+
 ghost use Rattle.std.specs.Prelude.{◌≡◌, false, ◌+◌, ◌*◌, ◌≤◌, length, get_or};
 ghost use Rattle.octets.specs.Address.{six_at, same_octets};
 ghost use Rattle.links.specs.Link.{four_ok, link_ok, names_of};

@@ -11,7 +11,7 @@ use walk::{Head, RUNS_PAST, head_at};
 const NOT_AS_DUE: u8 = 4;
 
 // A refusal, or the places of TLV 2 and TLV 3.
-#[derive(Drop)]
+#[derive(Clone, Copy)]
 pub enum Leading {
     Refused(u8),
     At { port: usize, seconds: usize },

@@ -1,5 +1,7 @@
 // The LLDPDU: what its first three TLVs must be, the walk behind them, and its outline.
 // Validity, identity and seconds are decided here; what the other fields say is the reader's.
+#![tactic(auto)]
+
 mod extent;
 mod leading;
 mod outline;

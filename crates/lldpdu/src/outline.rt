@@ -15,7 +15,7 @@ use octets::pair;
 use text::Part;
 use walk::Extent;
 
-#[derive(Drop)]
+#[derive(Clone, Copy)]
 pub struct Outline {
     pub extent: Extent,
     pub chassis: IdPart,

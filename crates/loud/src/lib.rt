@@ -1,5 +1,7 @@
 // One loud chassis (N13): how many records a chassis holds on a port.
 // It is asked of a new record before that gets room (R13), and of a table where fitness cannot tell it by marks (N5 g).
+#![tactic(auto)]
+
 ghost use Rattle.std.specs.Prelude.{◌≡◌};
 ghost use Rattle.ids.specs.Id.{id_meant};
 ghost use Rattle.rules.specs.Shares.{chassis_is};

@@ -1,5 +1,7 @@
 // Each place by itself (N5 b, c): whether it is fit, and then its mark, by which most identities are told apart.
 // Each LLDPDU is walked once, for validity, seconds and mark together. A shorter buffer is looked at as far as it goes; its length is `fitness`'s.
+#![tactic(auto)]
+
 ghost use Rattle.std.specs.Prelude.{◌≡◌, false, length, replicate};
 ghost use Rattle.walk.specs.declared.Extent.TheVariants.{Octets};
 ghost use Rattle.lldpdu.specs.Extent.{extent_of};
@@ -17,14 +19,14 @@ use text::{Part, text_of};
 use whole::all_zero;
 
 // What is found at a place that is looked at by itself: it is not fit, or its mark.
-#[derive(Drop)]
+#[derive(Clone, Copy)]
 enum Check {
     Unfit,
     Mark(u32),
 }
 
 // The marks of all places, where all of them are fit by themselves; else none.
-#[derive(Drop)]
+#[derive(Clone, Copy)]
 pub struct Marks {
     pub fit: bool,
     pub marks: [u32; PLACES],

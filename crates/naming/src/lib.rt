@@ -1,5 +1,7 @@
 // Who sees an address: the first TLV of an LLDPDU that is well-formed link information, basic or extension, and names it (A4).
 // HTIP or not does not matter, and what is malformed is passed over.
+#![tactic(auto)]
+
 ghost use Rattle.std.specs.Prelude.{◌≡◌, ◌≤◌, length, drop, get_or};
 ghost use Rattle.walk.specs.Walk.{walk};
 ghost use Rattle.lldpdu.specs.Extent.{rest_of};
@@ -14,13 +16,13 @@ use text::{Part, text_of};
 use walk::{Step, step_at};
 
 // A number as it was sent: its count of octets and its value, so that 00 06 is not 06.
-#[derive(Drop)]
+#[derive(Clone, Copy)]
 pub struct Number {
     pub octets: usize,
     pub value: u32,
 }
 
-#[derive(Drop)]
+#[derive(Clone, Copy)]
 pub enum Naming {
     Refused(u8),
     Nowhere,

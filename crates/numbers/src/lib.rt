@@ -1,5 +1,7 @@
 // The table but for its octets (N1): port, seconds left, length and sender of every place, and all that follows from the numbers alone.
 // The number of ports is one constant; places and common places follow from it.
+#![tactic(auto)]
+
 ghost use Rattle.std.specs.Prelude.{◌≡◌};
 ghost use Rattle.rules.specs.Shares.{beyond, share};
 ghost use Rattle.numbers.specs.Sizes.{ports};
@@ -23,12 +25,12 @@ const MOST: u8 = 6;
 pub const PER_CHASSIS: u8 = 3;
 
 // The source of the frame that a record came in (N3). It is a struct, since a field of a struct cannot be an array of arrays.
-#[derive(Drop)]
+#[derive(Clone, Copy)]
 pub struct Sender {
     pub octets: [u8; 6],
 }
 
-#[derive(Drop)]
+#[derive(Clone, Copy)]
 pub struct Table {
     pub port: [u8; PLACES],
     pub seconds: [u16; PLACES],

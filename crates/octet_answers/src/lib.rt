@@ -1,5 +1,7 @@
 // The octets of each answer (X4), put into a lent slice of its length; the refusal number is returned, and a refusal leaves the slice as it was.
 // A slice of another length gives 1 and is not written (X2).
+#![tactic(auto)]
+
 mod readings;
 mod replies;
 

@@ -1,5 +1,7 @@
 // The table's numbers and senders as octets (X3), for a caller that has no structs of ours: four slices lent beside the buffer.
 // Any slices get an answer: what octets past the end would say is 0, and slices of other lengths are not written.
+#![tactic(auto)]
+
 ghost use Rattle.std.specs.Prelude.{◌≡◌, ◌+◌, ◌*◌, length, get_or};
 ghost use Rattle.tally.specs.Tab.{tab};
 ghost use Rattle.octets.specs.Numbers.{pair_of};

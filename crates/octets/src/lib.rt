@@ -1,5 +1,7 @@
 // Octets: total reads, numbers and addresses made of them, and the two octets of a TLV header.
 // Every function takes any input; a read past the end of a slice gives 0, so no caller owes an index.
+#![tactic(auto)]
+
 ghost use Rattle.std.specs.Prelude.{◌≡◌, get_or, take};
 ghost use Rattle.octets.specs.Header.{kind_in, length_in, high, low};
 ghost use Rattle.octets.specs.Numbers.{pair_of, value_of};

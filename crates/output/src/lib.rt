@@ -1,5 +1,7 @@
 // A lent output that octets are put into, each behind the one before it: the writer's announcements and what is printed.
 // Every function takes any output and any place, answers the place behind what it put, and leaves out what does not fit.
+#![tactic(auto)]
+
 ghost use Rattle.std.specs.Prelude.{◌≡◌, ◌+◌, ◌≤◌, length, leb};
 ghost use Rattle.tally.specs.Tests.{pick};
 ghost use Rattle.output.specs.Output.{output_at, more, puts};

@@ -1,5 +1,7 @@
 // Whether every part of a description lies inside the text that is lent with it (W7).
 // An empty part must lie inside too; a part that begins at the end of the text does.
+#![tactic(auto)]
+
 ghost use Rattle.std.specs.Prelude.{◌≡◌};
 ghost use Rattle.tally.specs.Tests.{all};
 ghost use Rattle.parts.specs.Inside.{part_inside, parts_inside, system_inside, link_inside, optional_inside, all_inside};

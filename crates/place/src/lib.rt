@@ -1,5 +1,7 @@
 // One place of the table: its numbers and its sender in the struct, its 1,500 octets in the buffer (N1), and whose it is (N2).
 // Any place of any buffer can be named: past the last nothing is kept, and a buffer of another length is read as far as it goes and never written.
+#![tactic(auto)]
+
 ghost use Rattle.std.specs.Prelude.{◌≡◌};
 ghost use Rattle.ids.specs.Id.{id_meant};
 ghost use Rattle.place.specs.State.{put_there, free, state, lldpdu_in, keep, record_is, is_from, ident, find};

@@ -1,5 +1,7 @@
 // The two questions: how many a port holds (N10), and who sees an address (N11).
 // Neither writes anything; who sees asks the reader about each record as it is kept.
+#![tactic(auto)]
+
 ghost use Rattle.std.specs.Prelude.{◌≡◌, ◌≢◌, true, ◌-◌, length};
 ghost use Rattle.walk.specs.declared.Extent.TheVariants.{Octets};
 ghost use Rattle.lldpdu.specs.Extent.{extent_of};
@@ -14,13 +16,13 @@ use numbers::{PLACES, PORTS, Table, held};
 use place::lldpdu_at;
 
 // A count and a refusal are told apart, since 1 and 2 can be either.
-#[derive(Drop)]
+#[derive(Clone, Copy)]
 pub enum Count {
     Holds(u8),
     Refused(u8),
 }
 
-#[derive(Drop)]
+#[derive(Clone, Copy)]
 pub enum Sight {
     Refused(u8),
     Nobody,

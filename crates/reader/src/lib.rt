@@ -1,5 +1,7 @@
 // The reader: what an LLDP frame, or a bare LLDPDU, says.
 // Octets come in, meaning comes out; no input, however long or short, is left without its one answer.
+#![tactic(auto)]
+
 mod frame;
 
 pub use extension::{

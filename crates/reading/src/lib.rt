@@ -1,5 +1,7 @@
 // The whole reading of an LLDPDU: its extent, every field that is read, and the HTIP verdict.
 // The description holds numbers and parts of the LLDPDU, so that what was read can be written as it stands.
+#![tactic(auto)]
+
 ghost use Rattle.std.specs.Prelude.{◌≡◌, ◌^◌, ◌<◌, ◌≤◌, length};
 ghost use Rattle.tally.specs.Tests.{pick};
 ghost use Rattle.fields.specs.Field.{link};
@@ -16,7 +18,7 @@ use system::{System, empty_system, system_at};
 use text::{Optional, Part, text_of};
 
 // A link information: the octets of its interface type, of its port number and of all its addresses (T7).
-#[derive(Drop)]
+#[derive(Clone, Copy)]
 pub enum Link {
     Absent,
     Table {
@@ -27,7 +29,7 @@ pub enum Link {
 }
 
 // What an announcement says, for the reader and for the writer. An absent string is an empty part (A2).
-#[derive(Drop)]
+#[derive(Clone, Copy)]
 pub struct Description {
     pub chassis: IdPart,
     pub port: IdPart,
@@ -48,7 +50,7 @@ pub struct Description {
     pub system: System,
 }
 
-#[derive(Drop)]
+#[derive(Clone, Copy)]
 pub struct Reading {
     pub extent: Extent,
     pub htip: bool,
@@ -56,7 +58,7 @@ pub struct Reading {
 }
 
 // The parts of link information, empty where it is absent, and whether it is there (A3).
-#[derive(Drop)]
+#[derive(Clone, Copy)]
 pub struct LinkParts {
     pub there: bool,
     pub interface: Part,

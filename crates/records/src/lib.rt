@@ -1,5 +1,7 @@
 // Where a replay stands in a capture (C9), and what it does where nothing more is due there: a header is read, or a record makes its calls.
 // The seconds of a record wait for its last octet (C7). Any place, record buffer and table get an answer.
+#![tactic(auto)]
+
 ghost use Rattle.std.specs.Prelude.{◌≡◌, ◌-◌};
 ghost use Rattle.capture.specs.Layout.{layout_of};
 ghost use Rattle.place.specs.State.{state};
@@ -25,7 +27,7 @@ const MOST_SECONDS: u32 = 65535;
 pub const NO_CAPTURE: u8 = 11;
 
 // What becomes of a record (C5): its frame is heard, or it is shorter than its original, or too long for any frame.
-#[derive(Drop)]
+#[derive(Clone, Copy)]
 pub enum Fate {
     Heard,
     Skipped,
@@ -34,7 +36,7 @@ pub enum Fate {
 
 // Where in the file a replay stands: in the file header, in the header of a record, in a record with this stamp;
 // or behind the last frame, or refused.
-#[derive(Drop)]
+#[derive(Clone, Copy)]
 pub enum Stage {
     Opening,
     Heading,
@@ -44,14 +46,14 @@ pub enum Stage {
 }
 
 // The stamp of the record before, where there is one (C4).
-#[derive(Drop)]
+#[derive(Clone, Copy)]
 pub enum Before {
     Nothing,
     Stamp(u32),
 }
 
 // `held` octets stand in the record buffer and `want` more are due; `left` is what is left of the limit.
-#[derive(Drop)]
+#[derive(Clone, Copy)]
 pub struct Replay {
     pub stage: Stage,
     pub low: bool,
@@ -64,7 +66,7 @@ pub struct Replay {
 }
 
 // The place behind a piece, and the table that the calls left.
-#[derive(Drop)]
+#[derive(Clone, Copy)]
 pub struct Fed {
     pub replay: Replay,
     pub table: Table,

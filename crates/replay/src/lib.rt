@@ -1,5 +1,7 @@
 // The replay of a capture (C1 to C10), fed in pieces that are cut anywhere: the file is never held whole.
 // A replay keeps its place by value and what it has of a header or a record in a lent record buffer; the table's calls do the rest.
+#![tactic(auto)]
+
 ghost use Rattle.std.specs.Prelude.{◌≡◌, ◌≤◌, ◌<◌, eqb, not, length};
 ghost use Rattle.place.specs.State.{state};
 ghost use Rattle.replay.specs.Place.{beginning, keeps, end_at};
@@ -25,7 +27,7 @@ pub(crate) const FILE_HEADER: u32 = 24;
 const TORN: u8 = 12;
 
 // How many frames were handed over (C6), or the refusal.
-#[derive(Drop)]
+#[derive(Clone, Copy)]
 pub enum Replayed {
     Handed(usize),
     Refused(u8),

@@ -1,5 +1,7 @@
 // What a string may be: the characters of a port description, and how long the string of each device ID is.
 // The rules name single characters and IDs; the code tests for what lies before, between and behind them, and has ranges of IDs.
+#![tactic(auto)]
+
 ghost use Rattle.std.specs.Prelude.{◌≡◌, not};
 ghost use Rattle.strings.specs.Text.{char_ok, text_ok};
 ghost use Rattle.strings.specs.Wants.{wanted_of};
@@ -26,7 +28,7 @@ pub fn is_text(part: &[u8]) -> bool
 }
 
 // What the ID of a device information field asks of its string.
-#[derive(Drop)]
+#[derive(Clone, Copy)]
 pub enum Wanted {
     // a string of 1 to so many octets (T3)
     Text(u8),

@@ -1,5 +1,7 @@
 // The system fields: system name, system description, capabilities and management addresses (S1 to S5).
 // How they are read of what was found in an LLDPDU, and whether those of a description keep the rules.
+#![tactic(auto)]
+
 ghost use Rattle.std.specs.Prelude.{◌≡◌};
 ghost use Rattle.tally.specs.Tests.{all, is_none};
 ghost use Rattle.text.specs.Part.{texts_of};
@@ -11,14 +13,14 @@ use octets::{octet, pair};
 use text::{Part, Parts, empty_parts, nth_part, part_count, text_of};
 
 // Two sets of sixteen flags: what the system can do, and what of it is enabled (S2).
-#[derive(Drop)]
+#[derive(Clone, Copy)]
 pub enum Capabilities {
     Absent,
     Flags { able: u16, enabled: u16 },
 }
 
 // An absent name or description is an empty part (A2). What is narrower than a word stands last, where no gap behind it is copied.
-#[derive(Drop)]
+#[derive(Clone, Copy)]
 pub struct System {
     pub name: Part,
     pub description: Part,

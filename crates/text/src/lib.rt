@@ -1,9 +1,11 @@
 // A part of a text: where it starts and how many octets it has, and the octets themselves; a part that may be absent; and up to four parts, in order.
 // What was read, and what is to be written or printed, are parts of a text that is lent beside them.
+#![tactic(auto)]
+
 ghost use Rattle.std.specs.Prelude.{◌≡◌, length, get_or};
 ghost use Rattle.text.specs.Part.{text_of, nowhere, empty_parts, with_part, parts_in};
 
-#[derive(Drop)]
+#[derive(Clone, Copy)]
 pub struct Part {
     pub start: usize,
     pub len: usize,
@@ -26,7 +28,7 @@ pub fn text_of(s: &[u8], p: Part) -> &[u8]
 }
 
 // A part that may be absent, which is not the same as an empty one (A3).
-#[derive(Drop)]
+#[derive(Clone, Copy)]
 pub enum Optional {
     Absent,
     Present(Part),
@@ -36,7 +38,7 @@ pub enum Optional {
 pub const MOST_PARTS: usize = 4;
 
 // The parts below the count; what stands behind them in the array says nothing.
-#[derive(Drop)]
+#[derive(Clone, Copy)]
 pub struct Parts {
     pub count: usize,
     pub parts: [Part; MOST_PARTS],

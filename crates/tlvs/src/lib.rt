@@ -1,5 +1,7 @@
 // One TLV of an announcement, put into a lent output: the first three, the fields, and the header that End has alone.
 // Every function puts its octets at a place of the output and answers the place behind them; what does not fit is left out.
+#![tactic(auto)]
+
 ghost use Rattle.std.specs.Prelude.{◌≡◌, ◌/◌, ◌%◌, [], ◌∷◌};
 ghost use Rattle.std.proofs.Math.Option.{some};
 ghost use Rattle.output.specs.Output.{output_at, puts};

@@ -1,5 +1,7 @@
 // The walk: one TLV at a place, first by its header alone, then by the rules for a TLV behind the first three.
 // This is the one place that knows how far a TLV reaches. Any octets and any place get an answer.
+#![tactic(auto)]
+
 ghost use Rattle.std.specs.Prelude.{◌≡◌, drop};
 ghost use Rattle.walk.specs.Walk.{head_of, step_of};
 
@@ -11,7 +13,7 @@ pub const RUNS_PAST: u8 = 5;
 const OUT_OF_PLACE: u8 = 6;
 
 // The header at a place, where header and information string are whole.
-#[derive(Drop)]
+#[derive(Clone, Copy)]
 pub enum Head {
     Short,
     Whole { kind: u8, len: usize },
@@ -36,14 +38,14 @@ pub fn head_at(s: &[u8], at: usize) -> Head
     }
 }
 
-#[derive(Drop)]
+#[derive(Clone, Copy)]
 pub enum Extent {
     Refused(u8),
     Octets(usize),
 }
 
 // What the walk does behind the first three TLVs: it is refused, it is over, or it goes on behind one more TLV.
-#[derive(Drop)]
+#[derive(Clone, Copy)]
 pub enum Step {
     Refused(u8),
     End(usize),

@@ -1,5 +1,7 @@
 // Whole strings of octets: all zero, the same, cleared, filled.
 // No early exit octet by octet: octets are joined, so that the compiler takes many at a time.
+#![tactic(auto)]
+
 ghost use Rattle.std.specs.Prelude.{◌≡◌, min, length, replicate};
 ghost use Rattle.octets.specs.Address.{same_octets};
 ghost use Rattle.whole.specs.Whole.{zeros, filled};

@@ -1,5 +1,7 @@
 // The agent's writer: from a description and the text that it points into, the octets of its announcement.
 // A description that breaks a rule, or an output that is too short, gets its number and not one octet is written.
+#![tactic(auto)]
+
 ghost use Rattle.writer.specs.Write.{Writes};
 
 use announcement::put_lldpdu;
@@ -11,7 +13,7 @@ pub use reader::{
     empty_system, with_part,
 };
 
-#[derive(Drop)]
+#[derive(Clone, Copy)]
 pub enum Written {
     Octets(usize),
     Refused(u8),
