@@ -12,7 +12,7 @@ use lib.ListN.{length, get_or, length-append}
 use Rattle.tally.specs.Tests.{pick, both}
 use Rattle.tally.specs.Tab.{tab}
 use Rattle.tally.proofs.TestsLaws.{both_true}
-use Rattle.tally.proofs.TabLaws.{tab-getD}
+use Rattle.tally.proofs.TabLaws.{tab-get_or}
 use Rattle.octets.specs.Address.{same_octets}
 use Rattle.octets.proofs.AddressLaws.{same-equal, same_refl}
 use Rattle.rules.specs.Identity.{Ident}
@@ -156,7 +156,7 @@ order-few f g h zero = rw (order-none f) (omega arith)
 order-few f g h (suc n) = rw (order-step f n) (omega (arith, order-few f g h n, h n, length-append (in_order f n) (f n), records-tab n g))
 
 in-places : (f : ℕ → List Entry) (t : Places) → ((i : ℕ) → length (f i) ≤ length (found (get_or t i none))) → length (in_order f (length t)) ≤ length (records_in t)
-in-places f t h = rw (tab-getD t none) at (order-few f (λ i. get_or t i none) h (length t))
+in-places f t h = rw (tab-get_or t none) at (order-few f (λ i. get_or t i none) h (length t))
 
 -- The whole list
 

@@ -11,7 +11,7 @@ use borrow.Author.Tests.{ltb-true, ltb-false}
 use lib.Dec.{ltb, eqb}
 use lib.ListN.{length, get_or}
 use Rattle.tally.specs.Tests.{pick, both}
-use Rattle.tally.proofs.TabLaws.{tab-getD}
+use Rattle.tally.proofs.TabLaws.{tab-get_or}
 use Rattle.octets.specs.Address.{same_octets}
 use Rattle.rules.specs.Identity.{Ident, same}
 use Rattle.rules.specs.Model.{Rec, Places, is_some, lookup}
@@ -42,7 +42,7 @@ known-below (x ∷ t) (suc k) r e = omega (arith, known-below t k r e)
 
 -- another place has another identity
 apart : (t : Places) → Once t → (i j : ℕ) (r q : Rec) → get_or t i none ≡ some r → get_or t j none ≡ some q → j ≢ i → same r.who q.who ≡ false
-apart t o i j r q e d n = go (ltb j i) refl (tab-once (length t) (λ k. get_or t k none) (rw (tab-getD t none) o))
+apart t o i j r q e d n = go (ltb j i) refl (tab-once (length t) (λ k. get_or t k none) (rw (tab-get_or t none) o))
   where
     go : (b : Bool) → ltb j i ≡ b → Apart (length t) (λ k. get_or t k none) → same r.who q.who ≡ false
     go true l f = differ-sym q.who r.who (f j i q r (ltb-true j i l) (known-below t i r e) d e)

@@ -25,7 +25,7 @@ use Rattle.output.proofs.OutputLaws.{puts_then, puts-same, puts_none}
 use Rattle.place.specs.State.{State, at, lldpdu_in, whose_in, who_at, is_of, find}
 use Rattle.place.proofs.ThereLaws.{there-lldpdu}
 use Rattle.fitness.specs.View.{rec_of, place_of, view}
-use Rattle.fitness.proofs.ViewLaws.{place-free, place-used, getD-view, view-long}
+use Rattle.fitness.proofs.ViewLaws.{place-free, place-used, get_or-view, view-long}
 use Rattle.changes.specs.Entries.{Entry, entry, left_kind, joined_kind, seconds_kind, altered_kind, place_of_who, became, of_first, of_second, in_order, octets_of}
 use Rattle.changes.proofs.OrderLaws.{octets-append, order-none, order-step}
 use Rattle.changes.proofs.BetweenLaws.{at_place, known-below}
@@ -83,7 +83,7 @@ module _ (s : State) (w : Ident) {k : ℕ} (e : k ≡ find s w) where
 
   known-there : k < places → lookup w (view s) ≡ some (rec_of (at s k))
   unfolding find
-  known-there l = sym seen_at ∙ getD-view s k l ∙ place-used (at s k) used
+  known-there l = sym seen_at ∙ get_or-view s k l ∙ place-used (at s k) used
     where
       there : is_of s w k ≡ true
       there = rw e (first_passes (is_of s w) places 0 (rw (← e) l))
@@ -109,7 +109,7 @@ module _ (k : ℕ) where
 
 module _ (a b : State) (i : ℕ) (h : i < places) where
   pub first-free : (at a i).len ≡ 0 → first_gives a b i ≡ []
-  first-free e = ap (of_first (view b) i) (getD-view a i h ∙ place-free (at a i) e)
+  first-free e = ap (of_first (view b) i) (get_or-view a i h ∙ place-free (at a i) e)
 
   -- used; l is what it keeps, and k is where the second table has its identity
   module _ (u : (at a i).len ≢ 0) {l : List ℕ} (el : l ≡ lldpdu_in a.buf i (at a i).len) {k : ℕ} (ek : k ≡ find b (whose_in (at a i).port l)) where
@@ -117,7 +117,7 @@ module _ (a b : State) (i : ℕ) (h : i < places) where
     its = ek ∙ ap (λ (x : List ℕ). find b (whose_in (at a i).port x)) (el ∙ there-lldpdu a i h)
 
     gives : first_gives a b i ≡ became i (rec_of (at a i)) (place_of_who (who_at (at a i)) (view b)) (lookup (who_at (at a i)) (view b))
-    gives = ap (of_first (view b) i) (getD-view a i h ∙ place-used (at a i) u)
+    gives = ap (of_first (view b) i) (get_or-view a i h ∙ place-used (at a i) u)
 
     pub first-left : places ≤ k → first_gives a b i ≡ entry left_kind i ∷ []
     first-left n = gives ∙ ap (became i (rec_of (at a i)) (place_of_who (who_at (at a i)) (view b))) (new-there b (who_at (at a i)) its n)
@@ -136,7 +136,7 @@ module _ (a b : State) (i : ℕ) (h : i < places) where
 
 module _ (a b : State) (k : ℕ) (h : k < places) where
   pub second-free : (at b k).len ≡ 0 → second_gives a b k ≡ []
-  second-free e = ap (of_second (view a) k) (getD-view b k h ∙ place-free (at b k) e)
+  second-free e = ap (of_second (view a) k) (get_or-view b k h ∙ place-free (at b k) e)
 
   -- used; l is what it keeps, and i is where the first table has its identity
   module _ (u : (at b k).len ≢ 0) {l : List ℕ} (el : l ≡ lldpdu_in b.buf k (at b k).len) {i : ℕ} (ei : i ≡ find a (whose_in (at b k).port l)) where
@@ -144,7 +144,7 @@ module _ (a b : State) (k : ℕ) (h : k < places) where
     whose = ei ∙ ap (λ (x : List ℕ). find a (whose_in (at b k).port x)) (el ∙ there-lldpdu b k h)
 
     gives-second : second_gives a b k ≡ pick (is_some (lookup (who_at (at b k)) (view a))) [] (entry joined_kind k ∷ [])
-    gives-second = ap (of_second (view a) k) (getD-view b k h ∙ place-used (at b k) u)
+    gives-second = ap (of_second (view a) k) (get_or-view b k h ∙ place-used (at b k) u)
 
     pub second-known : i < places → second_gives a b k ≡ []
     second-known n = gives-second ∙ ap (λ (x : Option Rec). pick (is_some x) [] (entry joined_kind k ∷ [])) (known-there a (who_at (at b k)) whose n)

@@ -5,7 +5,6 @@ use borrow.Fn.Kinds.{Dens, res_t, ended_of}
 use contract.Lifetimes.{Lfts}
 use denote.Triple.Clauses.{AtExit}
 use mathlib.Core.Path.{◌≡◌, refl, sym, ap, ◌∙◌}
-use mathlib.Core.Logic.{◌↔◌}
 use mathlib.Core.Bool.{Bool, true, false, not}
 use mathlib.Core.List.{List, [], ◌∷◌, ◌++◌}
 use native.Mathlib.Omega.{arith}
@@ -14,7 +13,6 @@ use lib.Dec.{ltb}
 use lib.ListN.{length, drop}
 use Rattle.tally.specs.Tests.{pick, both}
 use Rattle.tally.proofs.TestsLaws.{both_true}
-use Rattle.rules.specs.Model.{Places}
 use Rattle.rules.specs.Fit.{Once}
 use Rattle.rules.specs.Records.{records_in, SameRecords}
 use Rattle.place.specs.State.{State, state}

@@ -16,7 +16,7 @@ use Rattle.tally.specs.Tab.{tab}
 use Rattle.tally.proofs.TestsLaws.{both_true}
 use Rattle.tally.proofs.RangesLaws.{all_true, all-each}
 use Rattle.tally.proofs.CountsLaws.{count-some}
-use Rattle.tally.proofs.TabLaws.{length-tab, getD-tab}
+use Rattle.tally.proofs.TabLaws.{length-tab, get_or-tab}
 use Rattle.ids.specs.Id.{Id}
 use Rattle.rules.specs.Identity.{Ident, same}
 use Rattle.rules.specs.Shares.{most, per_chassis, beyond, port_is, chassis_is}
@@ -26,7 +26,7 @@ use Rattle.rules.specs.Fit as model-fit
 use Rattle.rules.specs.Fit.{Once}
 use Rattle.rules.proofs.SharesLaws.{chassis-true, ports-none}
 use Rattle.rules.proofs.TabLaws.{Apart, tally-tab, in-tab, once-tab, tab-once}
-use Rattle.numbers.specs.Sizes.{ports, places, common}
+use Rattle.numbers.specs.Sizes.{ports, places}
 use Rattle.numbers.specs.Numbers.{holds}
 use Rattle.place.specs.State.{Place, State, octets, at, used, who_at, is_of, passes, count_records}
 use Rattle.marks.specs.PlaceFit.{ok_place, ok_used}
@@ -76,9 +76,9 @@ module _ (s : State) where
   abbrev pub placed : ℕ → Option Rec
   placed k = place_of (at s k)
 
-  pub getD-view : (k : ℕ) → k < places → get_or (view s) k none ≡ place_of (at s k)
+  pub get_or-view : (k : ℕ) → k < places → get_or (view s) k none ≡ place_of (at s k)
   unfolding view
-  getD-view k l = getD-tab places placed k none l
+  get_or-view k l = get_or-tab places placed k none l
 
   pub view-long : length (view s) ≡ places
   unfolding view

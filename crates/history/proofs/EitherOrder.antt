@@ -8,7 +8,6 @@ use mathlib.Core.List.{List}
 use Rattle.rules.specs.Identity.{Ident}
 use Rattle.rules.specs.Events.{Heard, History}
 use Rattle.rules.specs.Model.{Places, lookup, holds_in, reply, after_frame}
-use Rattle.rules.specs.Records.{records_in, SameRecords}
 use Rattle.rules.specs.EitherOrder.{Alike, LastPlace, FreedPlace, OrderMatters, Other, OneAtMost, OtherOrder}
 use Rattle.rules.specs.declared.Reply.{Reply}
 use Rattle.rules.specs.declared.Reply.TheVariants.{Recorded, Gone, Refused}
@@ -23,28 +22,8 @@ use Rattle.hearing.proofs.ReplyLaws.{heard-unfit, heard-port}
 use Rattle.table.proofs.StepLaws.{Kept, kept-fit, view-fit}
 use Rattle.history.proofs.CallsLaws.{reached, other-order-table}
 use Rattle.history.proofs.Runs.{Ran, ran-called}
+use Rattle.history.proofs.BothOrders.{BothOrders, CodeAlike, CodeMatters}
 use Rattle.history.proofs.TwoTables.{FrameCall, before, behind, port_of, octets_of, answer_of, told_by, is-step, SameTables}
-
--- Four calls
-
-pub record BothOrders (x y y' x' : FrameCall) : Type 0 where
-  pub next : before y ≡ behind x
-  pub next-too : before x' ≡ behind y'
-  pub same-port-x : port_of x' ≡ port_of x
-  pub same-frame-x : octets_of x' ≡ octets_of x
-  pub same-port-y : port_of y' ≡ port_of y
-  pub same-frame-y : octets_of y' ≡ octets_of y
-  pub apart : port_of x ≢ port_of y
-
--- E1
-pub record CodeAlike (x y y' x' : FrameCall) : Type 0 where
-  pub answer_x : answer_of x ≡ answer_of x'
-  pub answer_y : answer_of y ≡ answer_of y'
-  pub records : SameRecords (records_in (view (behind y))) (records_in (view (behind x')))
-
--- E2, of the table before the one order
-abbrev pub CodeMatters : FrameCall → FrameCall → Type 0
-CodeMatters x y = OrderMatters ports (view (before x)) (port_of x) (heard_of (octets_of x)) (port_of y) (heard_of (octets_of y))
 
 -- Two calls that follow one another
 

@@ -10,6 +10,7 @@ pub mod CallsLaws
 pub mod SeesLaws
 pub mod Runs
 pub mod TwoTables
+pub mod BothOrders
 pub mod EitherOrder
 pub mod Witness
 pub mod Examples

@@ -4,7 +4,7 @@ use Prim.Native.Nat.{ℕ}
 use borrow.Fn.Kinds.{Dens, res_t, ended_of}
 use contract.Lifetimes.{Lfts}
 use denote.Triple.Clauses.{AtExit}
-use mathlib.Core.Path.{◌≡◌, refl, sym, ap, ap₂, ◌∙◌}
+use mathlib.Core.Path.{◌≡◌, refl, sym, ap, ap₂, subst, ◌∙◌}
 use mathlib.Core.Bool.{Bool, true, false}
 use mathlib.Core.List.{List}
 use borrow.Author.Tests.{ltb-true, ltb-false}
@@ -124,7 +124,8 @@ pub code-same-frame : (x x' : FrameCall) → SameTables (before x) (before x') �
 code-same-frame x x' t p f =
     let a = is-step x t.kept in
     let b = is-step x' t.kept-too in
-    let e : Stepped (before x') (event.frame (port_of x) (heard_of (octets_of x))) (behind x') = rw (← p, ← f) b.step in (
+    let e : Stepped (before x') (event.frame (port_of x) (heard_of (octets_of x))) (behind x') =
+    subst (λ (v : Event). Stepped (before x') v (behind x')) (ap₂ (λ (q : ℕ) (g : List ℕ). event.frame q (heard_of g)) p f) b.step in (
       a.answer
           ∙ same-reply ports (view (before x)) (view (before x')) (view-fit (before x) t.kept) (view-fit (before x') t.kept-too) t.records (port_of x) (heard_of (octets_of x))
           ∙ ap₂ (λ (q : ℕ) (g : List ℕ). reply ports q (heard_of g) (view (before x'))) (sym p) (sym f)

@@ -2,7 +2,7 @@
 -- Each call is given a result and octets, and its contract is shown to allow them.
 use Prim.{tt}
 use Prim.Native.Nat.{ℕ}
-use denote.Ref.{Bor}
+use denote.Ref.{Bor, MutBor}
 use mathlib.Core.Path.{◌≡◌, refl, ap}
 use mathlib.Core.Bool.{Bool, true, false}
 use mathlib.Core.List.{List, [], ◌∷◌}
@@ -22,9 +22,12 @@ use Rattle.history.specs.Calls.{Called, begun, frame, waited, unplugged}
 use Rattle.history.proofs.CallsLaws.{always-fit}
 use Rattle.history.proofs.Runs.{Ran, ran-start, ran-frame, ran-passed, ran-lost}
 
--- octets that are lent, in block k: the buffer in 0, the frame in 1
-abbrev lent : ℕ → List ℕ → Bor (List ℕ)
-lent k b = record { ref_ptr = (k, 0); ghost_name = k; now = b }
+-- octets that are lent, each in a block of its own: the buffer, and the frame
+abbrev lent : List ℕ → MutBor (List ℕ)
+lent b = record { ref_ptr = (0, 0); ghost_name = 0; now = b }
+
+abbrev shown : List ℕ → Bor (List ℕ)
+shown b = record { ref_ptr = (1, 0); now = b }
 
 ends : {s s' : State} {h : History} → s ≡ s' → Ran s h → Ran s' h
 ends e c = rw (← e) c
@@ -37,23 +40,23 @@ loses {s} {h} c ran p = go (ltb p ports) refl
     go true e =
         let s' = each (lost p) places s in
         let post = lost-done s p (always-fit c) (ltb-true p ports e) refl in
-        ends (ap state_after post.exact) (ran-lost ([], tt) (s.table, (lent 0 s.buf, (p, tt))) (done s'.table) (s.table, (lent 0 s'.buf, (p, tt))) ran post)
+        ends (ap state_after post.exact) (ran-lost ([], tt) (s.table, (lent s.buf, (p, tt))) (done s'.table) (s.table, (lent s'.buf, (p, tt))) ran post)
     go false e =
         let post = lost-port s p (always-fit c) (ltb-false p ports e) refl in
-        ends (ap state_after post.exact) (ran-lost ([], tt) (s.table, (lent 0 s.buf, (p, tt))) (refused_outcome s.table 2) (s.table, (lent 0 s.buf, (p, tt))) ran post)
+        ends (ap state_after post.exact) (ran-lost ([], tt) (s.table, (lent s.buf, (p, tt))) (refused_outcome s.table 2) (s.table, (lent s.buf, (p, tt))) ran post)
 
 pub called-ran : {s : State} {h : History} → Called s h → Ran s h
 called-ran (begun s l) =
     let post = start-done s l refl refl in
     ends (ap state_after post.exact)
-    (ran-start ([], tt) (s.table, (lent 0 s.buf, tt)) (done empty.table) (s.table, (lent 0 (replicate (length s.buf) 0), tt)) l post)
+    (ran-start ([], tt) (s.table, (lent s.buf, tt)) (done empty.table) (s.table, (lent (replicate (length s.buf) 0), tt)) l post)
 called-ran (frame {s} {h} c p f) =
     let t = heard p f s in
-    ran-frame ([], ([], tt)) (s.table, (lent 0 s.buf, (p, (lent 1 f, tt)))) t.outcome (s.table, (lent 0 t.buf, (p, (lent 1 f, tt)))) (called-ran c) (hears-exactly p f s refl)
+    ran-frame ([], ([], tt)) (s.table, (lent s.buf, (p, (shown f, tt)))) t.outcome (s.table, (lent t.buf, (p, (shown f, tt)))) (called-ran c) (hears-exactly p f s refl)
 called-ran (waited {s} {h} c n) =
     let s' = each (aged n) places s in
     let post = passed-done s n (always-fit c) refl in
-    ends (ap state_after post.exact) (ran-passed ([], tt) (s.table, (lent 0 s.buf, (n, tt))) (done s'.table) (s.table, (lent 0 s'.buf, (n, tt))) (called-ran c) post)
+    ends (ap state_after post.exact) (ran-passed ([], tt) (s.table, (lent s.buf, (n, tt))) (done s'.table) (s.table, (lent s'.buf, (n, tt))) (called-ran c) post)
 called-ran (unplugged {s} {h} c p) = loses c (called-ran c) p
 
 -- Any calls after a Start, newest first

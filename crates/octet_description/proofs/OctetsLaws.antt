@@ -14,7 +14,7 @@ use borrow.Author.Tests.{ltb-true}
 use Rattle.tally.proofs.TestsLaws.{held}
 use Rattle.tally.specs.Counts.{one}
 use Rattle.tally.specs.Tab.{tab}
-use Rattle.tally.proofs.TabLaws.{tab-same, tab-getD}
+use Rattle.tally.proofs.TabLaws.{tab-same, tab-get_or}
 use Rattle.octets.specs.Numbers.{two_octets}
 use Rattle.text.specs.Part.{part, nowhere, most_parts, parts_in}
 use Rattle.text.specs.declared.Part.{Part}
@@ -222,7 +222,7 @@ module _ (l : Parts) (s : SmallParts l) where
   parts-back =
       ap₂ (λ (n : ℕ) (m : List Part). record { count = n; parts = m })
       (length-take-le l.count l.parts (omega (arith, s.few, s.room)))
-      (tab-same most_parts at back (λ k h. each_back k) ∙ ap (λ (n : ℕ). tab n at) (sym s.room) ∙ tab-getD l.parts nowhere)
+      (tab-same most_parts at back (λ k h. each_back k) ∙ ap (λ (n : ℕ). tab n at) (sym s.room) ∙ tab-get_or l.parts nowhere)
 
 -- The whole
 

@@ -13,7 +13,7 @@ use lib.Seq.{ext_get_or, take_all, get_or-append-add, get_or-drop}
 use lib.Dec.{eqb}
 use Rattle.tally.specs.Tab.{tab}
 use Rattle.tally.proofs.TestsLaws.{held}
-use Rattle.tally.proofs.TabLaws.{length-tab, getD-tab, tab-getD, tab-same, filled_more}
+use Rattle.tally.proofs.TabLaws.{length-tab, get_or-tab, tab-get_or, tab-same, filled_more}
 use Rattle.octets.specs.Numbers.{pair_of, two_octets}
 use Rattle.octets.specs.Address.{six_at}
 use Rattle.octets.proofs.AddressLaws.{six-there}
@@ -27,7 +27,7 @@ use Rattle.octet_table.specs.Lent.{Lent, lent, numbers_long, senders_len, length
 
 -- as many ports as there are places
 pub one_each : (o : List ℕ) → length o ≡ places → one_per_place o ≡ o
-one_each o e = ap (λ (n : ℕ). tab n (λ i. get_or o i 0)) (sym e) ∙ tab-getD o 0
+one_each o e = ap (λ (n : ℕ). tab n (λ i. get_or o i 0)) (sym e) ∙ tab-get_or o 0
 
 -- One octet
 
@@ -74,7 +74,7 @@ module _ (o : List ℕ) where
 
     number-again : (k : ℕ) → k < numbers_long → number_octet (numbers_in o) k ≡ get_or o k 0
     number-again k h =
-        let half : get_or (numbers_in o) (k / 2) 0 ≡ number (k / 2) = getD-tab places number (k / 2) 0 (omega arith) in
+        let half : get_or (numbers_in o) (k / 2) 0 ≡ number (k / 2) = get_or-tab places number (k / 2) 0 (omega arith) in
         ap (λ (n : ℕ). get_or (two_octets n) (k % 2) 0) half ∙ go (k % 2) refl
       where
         go : (m : ℕ) → k % 2 ≡ m → get_or (two_octets (number (k / 2))) m 0 ≡ get_or o k 0
@@ -85,7 +85,7 @@ module _ (o : List ℕ) where
     numbers-again : length o ≡ numbers_long → number_octets (numbers_in o) ≡ o
     numbers-again e =
         ext_get_or 0 (number_octets (numbers_in o)) o (length-tab numbers_long (number_octet (numbers_in o)) ∙ sym e)
-        (λ i l. let h : i < numbers_long = omega (arith, length-tab numbers_long (number_octet (numbers_in o))) in getD-tab numbers_long (number_octet (numbers_in o)) i 0 h ∙ number-again i h)
+        (λ i l. let h : i < numbers_long = omega (arith, length-tab numbers_long (number_octet (numbers_in o))) in get_or-tab numbers_long (number_octet (numbers_in o)) i 0 h ∙ number-again i h)
 
   abbrev sender_at : ℕ → Sender
   sender_at i = record { octets = six_at o (6 * i) }
@@ -95,8 +95,8 @@ module _ (o : List ℕ) where
       ext_get_or 0 (sender_octets (senders_in o)) o (length-tab senders_len (sender_octet (senders_in o)) ∙ sym e)
       (λ k l.
       let h : k < senders_len = omega (arith, length-tab senders_len (sender_octet (senders_in o))) in
-      getD-tab senders_len (sender_octet (senders_in o)) k 0 h
-      ∙ ap (λ (s : Sender). get_or s.octets (k % 6) 0) (getD-tab places sender_at (k / 6) no_sender (omega arith))
+      get_or-tab senders_len (sender_octet (senders_in o)) k 0 h
+      ∙ ap (λ (s : Sender). get_or s.octets (k % 6) 0) (get_or-tab places sender_at (k / 6) no_sender (omega arith))
       ∙ six-octet o (6 * (k / 6)) (k % 6) (omega arith)
       ∙ ap (λ (i : ℕ). get_or o i 0) (omega arith))
 
@@ -136,7 +136,7 @@ next-stays f n d =
 
 module _ (o d a : List ℕ) (i : ℕ) (h : i < places) (e : d ≡ tab places (low_first o)) (w : a ≡ tab i (number o) ++ drop i d) where
   pub turn-next : get_or a i 0 ≡ low_first o i
-  turn-next = ap (λ (l : List ℕ). get_or l i 0) w ∙ next-stays (number o) i d ∙ ap (λ (l : List ℕ). get_or l i 0) e ∙ getD-tab places (low_first o) i 0 h
+  turn-next = ap (λ (l : List ℕ). get_or l i 0) w ∙ next-stays (number o) i d ∙ ap (λ (l : List ℕ). get_or l i 0) e ∙ get_or-tab places (low_first o) i 0 h
 
   pub turn_more : ((k : ℕ) → Fits w8 (get_or o k 0)) → set a i (turned (get_or a i 0)) ≡ tab (i + 1) (number o) ++ drop (i + 1) d
   turn_more fits =
@@ -151,9 +151,9 @@ numbers-back l e small =
     ext_get_or 0 (numbers_in o) l (length-tab places (number o) ∙ sym e)
     (λ i b.
     let h : i < places = omega (arith, length-tab places (number o)) in
-    let hi = getD-tab numbers_long (number_octet l) (2 * i) 0 (omega arith) ∙ high-octet l i in
-    let lo = getD-tab numbers_long (number_octet l) (2 * i + 1) 0 (omega arith) ∙ low-octet l i in
-    getD-tab places (number o) i 0 h ∙ ap₂ pair_of hi lo ∙ omega (arith, small i))
+    let hi = get_or-tab numbers_long (number_octet l) (2 * i) 0 (omega arith) ∙ high-octet l i in
+    let lo = get_or-tab numbers_long (number_octet l) (2 * i + 1) 0 (omega arith) ∙ low-octet l i in
+    get_or-tab places (number o) i 0 h ∙ ap₂ pair_of hi lo ∙ omega (arith, small i))
 
 pub senders-back : (l : List Sender) → length l ≡ places → ((i : ℕ) → i < places → length (get_or l i no_sender).octets ≡ 6) → senders_in (sender_octets l) ≡ l
 unfolding six_at
@@ -163,8 +163,8 @@ senders-back l e six =
     (λ i b.
     let h : i < places = omega (arith, length-tab places (sender_at o)) in
     let x = (get_or l i no_sender).octets in
-    let at : (j k : ℕ) → j < 6 → 6 * i + j ≡ k → get_or o k 0 ≡ get_or x j 0 = λ j k b q. getD-tab senders_len (sender_octet l) k 0 (omega (arith, q)) ∙ sender-octet l i j b q in
-    getD-tab places (sender_at o) i no_sender h
+    let at : (j k : ℕ) → j < 6 → 6 * i + j ≡ k → get_or o k 0 ≡ get_or x j 0 = λ j k b q. get_or-tab senders_len (sender_octet l) k 0 (omega (arith, q)) ∙ sender-octet l i j b q in
+    get_or-tab places (sender_at o) i no_sender h
     ∙ ap (λ (y : List ℕ). record { octets = y })
     (rw (at 0 (6 * i) (omega arith) (omega arith), at 1 (6 * i + 1) (omega arith) refl, at 2 (6 * i + 2) (omega arith) refl, at 3 (6 * i + 3) (omega arith) refl, at 4 (6 * i + 4) (omega arith) refl, at 5 (6 * i + 5) (omega arith) refl)
     (six-there x 0 (omega (arith, six i h)) ∙ take_all 6 x (omega (arith, six i h)))))

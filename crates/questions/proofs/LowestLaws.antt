@@ -28,7 +28,7 @@ use Rattle.fitness.specs.View.{rec_of, place_of, view}
 use Rattle.questions.specs.declared.Count.TheVariants as count-is
 use Rattle.questions.specs.declared.Sight.{Sight}
 use Rattle.questions.specs.declared.Sight.TheVariants.{Nobody, At}
-use Rattle.fitness.proofs.ViewLaws.{getD-view, count-holds}
+use Rattle.fitness.proofs.ViewLaws.{get_or-view, count-holds}
 
 -- What the reader finds at a place, by the rules alone
 
@@ -47,7 +47,7 @@ seen_in_record a (some r) = naming.seen_at (extent_of r.octets) r.octets a
 
 pub seen-record : (s : State) (a : List ℕ) (k : ℕ) → k < places → seen_in_place a (at s k) ≡ seen_in_record a (get_or (view s) k none)
 unfolding place_of
-seen-record s a k l = go (eqb (at s k).len 0) ∙ ap (seen_in_record a) (sym (getD-view s k l))
+seen-record s a k l = go (eqb (at s k).len 0) ∙ ap (seen_in_record a) (sym (get_or-view s k l))
   where
     x : Place
     x = at s k

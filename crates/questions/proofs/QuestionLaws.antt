@@ -2,14 +2,12 @@
 -- What is found at a place is the reader's answer on the LLDPDU that it keeps.
 use Prim.Native.Nat.{ℕ, zero, suc, ◌+◌, ◌-◌, ◌≤◌, ◌<◌}
 use mathlib.Core.Path.{◌≡◌, refl, ap, ◌∙◌}
-use mathlib.Core.List.{List, [], ◌∷◌}
+use mathlib.Core.List.{List}
 use mathlib.Core.Option.{none, some}
-use mathlib.Core.Logic.{◌≢◌, ⊎_elim}
+use mathlib.Core.Logic.{◌≢◌}
 use mathlib.Core.Bool.{Bool, true, false, not}
 use native.Mathlib.Numerals.{add-one}
 use native.Mathlib.Omega.{arith}
-use denote.Enum.Declared.{tag_of}
-use types.Run.{OneOf}
 use borrow.Author.Tests.{eq-eqb, ne_eqb, lt-ltb, le-ltb}
 use lib.Dec.{eqb, ltb}
 use lib.ListN.{length}
@@ -18,7 +16,7 @@ use Rattle.tally.proofs.TestsLaws.{held, not-below}
 use Rattle.lldpdu.specs.Extent.{extent_of}
 use Rattle.walk.specs.declared.Extent.TheVariants.{Octets}
 use Rattle.naming.specs.Naming as naming
-use Rattle.naming.specs.contracts.Naming.{the_type}
+use Rattle.naming.specs.declared.Number.{Number}
 use Rattle.naming.specs.declared.Naming.{Naming}
 use Rattle.naming.specs.declared.Naming.TheVariants as naming-is
 use Rattle.numbers.specs.Sizes.{ports, places}
@@ -94,11 +92,11 @@ kept-valid s f k l u =
 pub naming-there : (s : State) (a : List ℕ) (k : ℕ) → k < places → naming_in a (at s k).len (lldpdu_in s.buf k (at s k).len) ≡ naming_in_place a (at s k)
 naming-there s a k h = ap (naming_in a (at s k).len) (there-lldpdu s k h)
 
--- a place that does not name the address is passed over; the first two cases of an answer are those
-pub passed_over : (n : Naming) (k : ℕ) (rest : Sight) → OneOf (0 ∷ 1 ∷ []) (tag_of the_type n) → on_naming n k rest ≡ rest
+-- a place that does not name the address is passed over
+pub passed_over : (n : Naming) (k : ℕ) (rest : Sight) → ((i p : Number) → n ≢ naming-is.Link i p) → on_naming n k rest ≡ rest
 passed_over (naming-is.Refused m) k rest h = refl
 passed_over naming-is.Nowhere k rest h = refl
-passed_over (naming-is.Link i p) k rest h = absurd (⊎_elim (λ (e : ◌≡◌ {A = ℕ} 2 0). omega arith) (λ (e : ◌≡◌ {A = ℕ} 2 1). omega arith) h)
+passed_over (naming-is.Link i p) k rest h = absurd (h i p refl)
 
 -- Who sees an address: the places in turn
 

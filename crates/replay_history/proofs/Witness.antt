@@ -2,7 +2,7 @@
 -- Each call is given a result and octets, and its contract is shown to allow them.
 use Prim.{tt}
 use Prim.Native.Nat.{ℕ}
-use denote.Ref.{Bor}
+use denote.Ref.{Bor, MutBor}
 use mathlib.Core.Path.{◌≡◌, refl}
 use mathlib.Core.List.{List, [], ◌∷◌, ◌++◌}
 use lib.ListN.{length}
@@ -13,18 +13,21 @@ use Rattle.replay.specs.Promises.{feeding}
 use Rattle.replay.proofs.EndLaws.{feeds-exactly}
 use Rattle.replay_history.proofs.Runs.{Playing, begun, fed-on}
 
--- octets that are lent, in block k: the table's buffer in 0, the record buffer in 1, a piece in 2
-abbrev lent : ℕ → List ℕ → Bor (List ℕ)
+-- octets in block k, lent to be written or shown: the table's buffer in 0, the record buffer in 1, a piece in 2
+abbrev lent : ℕ → List ℕ → MutBor (List ℕ)
 lent k b = record { ref_ptr = (k, 0); ghost_name = k; now = b }
+
+abbrev shown : ℕ → List ℕ → Bor (List ℕ)
+shown k b = record { ref_ptr = (k, 0); now = b }
 
 module _ (s : State) (port limit : ℕ) (room : List ℕ) (l : length room ≡ room_octets) where
   one_more : {file : List ℕ} (m : Moment) → Playing s port limit file m → (piece : List ℕ) → Playing s port limit (file ++ piece) (feeding m piece)
   one_more m p piece =
       let n = feeding m piece in
       fed-on ([], ([], ([], tt)))
-      (m.replay, (m.state.table, (lent 0 m.state.buf, (lent 1 m.room, (lent 2 piece, tt)))))
+      (m.replay, (m.state.table, (lent 0 m.state.buf, (lent 1 m.room, (shown 2 piece, tt)))))
       (record { replay = n.replay; table = n.state.table })
-      (m.replay, (m.state.table, (lent 0 n.state.buf, (lent 1 n.room, (lent 2 piece, tt)))))
+      (m.replay, (m.state.table, (lent 0 n.state.buf, (lent 1 n.room, (shown 2 piece, tt)))))
       p
       (feeds-exactly refl)
 
@@ -36,6 +39,6 @@ module _ (s : State) (port limit : ℕ) (room : List ℕ) (l : length room ≡ r
   pub any-pieces : (pieces : List (List ℕ)) → (m : Moment) × Playing s port limit (joined pieces) m
   any-pieces [] = (
     moment (beginning s port limit) room s,
-    begun ([], tt) (s.table, (lent 0 s.buf, (port, (limit, tt)))) (beginning s port limit) (s.table, (lent 0 s.buf, (port, (limit, tt)))) refl refl refl refl room l,
+    begun ([], tt) (s.table, (shown 0 s.buf, (port, (limit, tt)))) (beginning s port limit) (s.table, (shown 0 s.buf, (port, (limit, tt)))) refl refl refl refl room l,
   )
   any-pieces (piece ∷ before) = let c = any-pieces before in (feeding c.0 piece, one_more c.0 c.1 piece)

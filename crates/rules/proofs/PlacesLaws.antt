@@ -1,7 +1,7 @@
 -- The model's changes by place number: a new record is written at the lowest free place, a known one at its own.
 -- They are what a table cites that finds a place by a loop.
 use Prim.Native.Nat.{ℕ, zero, suc, ◌<◌}
-use mathlib.Core.Path.{◌≡◌, refl, sym, ap}
+use mathlib.Core.Path.{◌≡◌, refl, sym, ap, ◌∙◌}
 use mathlib.Core.List.{[], ◌∷◌}
 use mathlib.Core.Bool.{true, false}
 use mathlib.Core.Option.{Option, none, some, none-ne-some}
@@ -46,7 +46,9 @@ module _ (y : Rec) where
   swap-set x (none ∷ t) (suc i) u e = ap (λ (v : Places). none ∷ v) (swap-set x t i u.1 e)
   swap-set x (some r ∷ t) zero u e =
       let k : y.who ≡ r.who = in_some (λ v. v ≡ r.who) (some r) y refl e in
-      rw (k, same_self r.who) (ap (λ (v : Places). x ∷ v) (swap-absent r.who x t u.0))
+      let s : same y.who r.who ≡ true = ap (λ (v : Ident). same v r.who) k ∙ same_self r.who in
+      let a : each_record (swap y.who x) t ≡ t = ap (λ (v : Ident). each_record (swap v x) t) k ∙ swap-absent r.who x t u.0 in
+      rw s (ap (λ (v : Places). x ∷ v) a)
   swap-set x (some r ∷ t) (suc i) u e = rw (apart r t i u.0 e) (ap (λ (v : Places). some r ∷ v) (swap-set x t i u.1 e))
 
   -- what is at a place is what is found

@@ -9,7 +9,7 @@ use mathlib.Core.Option.{Option, none, some}
 use native.Mathlib.Omega.{arith}
 use lib.ListN.{set}
 use Rattle.tally.specs.Tab.{tab}
-use Rattle.tally.proofs.TabLaws.{getD-tab, tab-same}
+use Rattle.tally.proofs.TabLaws.{get_or-tab, tab-same}
 use Rattle.rules.specs.Identity.{Ident, same}
 use Rattle.rules.specs.Model.{Rec, Places, hits, tally, on_record, each_record}
 use Rattle.rules.specs.Fit.{InPlace, InAll, Absent, Once}
@@ -76,7 +76,7 @@ tab-once zero f o j k x y l n e d = absurd (omega arith)
 tab-once (suc m) f o j zero x y l n e d = absurd (omega arith)
 tab-once (suc m) f o zero (suc k) x y l n e d =
     in-at (λ v. same x.who v ≡ false) (tab m (next f)) k y (in_some (λ v. Absent v (tab m (next f))) (f 0) x o.0 e)
-    (getD-tab m (next f) k none (omega arith) ∙ d)
+    (get_or-tab m (next f) k none (omega arith) ∙ d)
 tab-once (suc m) f o (suc j) (suc k) x y l n e d = tab-once m (next f) o.1 j k x y (omega arith) (omega arith) e d
 
 -- a free place of the list is one of the places

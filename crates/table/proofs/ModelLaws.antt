@@ -45,7 +45,7 @@ use Rattle.fitness.specs.Fit.{fit, Fit}
 use Rattle.hearing.specs.Frame.{extent_on, heard_in, heard_of, Told, telling, state_told, kept, heard_at, heard_by_room, heard_new, heard_saying, on_heard, heard}
 use Rattle.fitness.specs.View.{rec_of, place_of, view}
 use Rattle.place.proofs.PutLaws.{put-sized}
-use Rattle.fitness.proofs.ViewLaws.{place-free, place-used, Seen, seen, placed, getD-view, view-long, count-view, view-fits}
+use Rattle.fitness.proofs.ViewLaws.{place-free, place-used, Seen, seen, placed, get_or-view, view-long, count-view, view-fits}
 use Rattle.fitness.proofs.FitLaws.{parts-fit, room_for}
 use Rattle.hearing.proofs.ReplyLaws.{room-share}
 use Rattle.fitness.proofs.KeepLaws.{kept-long, kept-extent, free-ok, free-long, keep-long}
@@ -135,7 +135,7 @@ module _ (s : State) (z : Sized places s) (f : Fit s) (p : ℕ) (low : p < ports
     found-who = same_true (who_at here) w found.1
 
     found_at : get_or (view s) (find s w) none ≡ some (rec_of here)
-    found_at = getD-view s (find s w) l ∙ place-used here (eqb-false here.len 0 (not-true (eqb here.len 0) found.0))
+    found_at = get_or-view s (find s w) l ∙ place-used here (eqb-false here.len 0 (not-true (eqb here.len 0) found.0))
 
     known : is_some (lookup w (view s)) ≡ true
     known = ap (λ (v : Ident). is_some (lookup v (view s))) (sym found-who) ∙ ap is_some (lookup-at (rec_of here) (view s) (find s w) once found_at)
@@ -186,8 +186,8 @@ module _ (s : State) (z : Sized places s) (f : Fit s) (p : ℕ) (low : p < ports
 
       taken : model.enter (recorded p a) (view s) ≡ set (view s) first (some (recorded p a))
       taken =
-          enter-set (recorded p a) (view s) first (omega (arith, h, view-long s)) (getD-view s first h ∙ place-free (at s first) first-free)
-          (λ j m. ap is_some (getD-view s j (omega (arith, m, h)) ∙ place-used (at s j) (first-least j m)))
+          enter-set (recorded p a) (view s) first (omega (arith, h, view-long s)) (get_or-view s first h ∙ place-free (at s first) first-free)
+          (λ j m. ap is_some (get_or-view s j (omega (arith, m, h)) ∙ place-used (at s j) (first-least j m)))
 
     new-right : answers (heard_new a.seconds w (kept p a) s)
     unfolding heard_new

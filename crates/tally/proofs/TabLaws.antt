@@ -20,11 +20,11 @@ module _ {A : Type 0} where
   length-tab zero f = refl
   length-tab (suc m) f = ap suc (length-tab m (next f))
 
-  pub getD-tab : (m : ℕ) (f : ℕ → A) (i : ℕ) (d : A) → i < m → get_or (tab m f) i d ≡ f i
+  pub get_or-tab : (m : ℕ) (f : ℕ → A) (i : ℕ) (d : A) → i < m → get_or (tab m f) i d ≡ f i
   unfolding tab
-  getD-tab zero f i d l = absurd (omega arith)
-  getD-tab (suc m) f zero d l = refl
-  getD-tab (suc m) f (suc i) d l = getD-tab m (next f) i d (omega arith)
+  get_or-tab zero f i d l = absurd (omega arith)
+  get_or-tab (suc m) f zero d l = refl
+  get_or-tab (suc m) f (suc i) d l = get_or-tab m (next f) i d (omega arith)
 
   pub tab-same : (m : ℕ) (f g : ℕ → A) → ((i : ℕ) → i < m → g i ≡ f i) → tab m g ≡ tab m f
   unfolding tab
@@ -32,10 +32,10 @@ module _ {A : Type 0} where
   tab-same (suc m) f g h = ap₂ cons (h 0 (omega arith)) (tab-same m (next f) (next g) (λ i l. h (suc i) (omega arith)))
 
   -- a list is what stands in its places
-  pub tab-getD : (l : List A) (d : A) → tab (length l) (λ i. get_or l i d) ≡ l
+  pub tab-get_or : (l : List A) (d : A) → tab (length l) (λ i. get_or l i d) ≡ l
   unfolding tab
-  tab-getD [] d = refl
-  tab-getD (x ∷ l) d = ap (cons x) (tab-getD l d)
+  tab-get_or [] d = refl
+  tab-get_or (x ∷ l) d = ap (cons x) (tab-get_or l d)
 
   -- A loop that fills a list from the front, one store a turn
 

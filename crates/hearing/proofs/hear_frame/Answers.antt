@@ -1,0 +1,26 @@
+-- `hearing::hear_frame` meets its contract: the reader's refusal, or what the LLDPDU says (unread-tells, saying-tells).
+-- The LLDPDU is cut out up to its End, so it has room in a place and says what the frame says; the source is its sender.
+use mathlib.Core.Path.{refl, ◌∙◌}
+use Rattle.place.specs.State.{state}
+use Rattle.hearing.proofs.ReplyLaws.{tells, unread-tells, frame-short, same-outline, saying-tells, is-octets}
+use Rattle.hearing.proofs.hear_frame.Goals as goal
+
+-- what is heard, text_of, stands behind the header and ends with its End (N3)
+pub hear-requires : goal.hear-requires
+hear-requires c =
+    let f = c.args.frame.now in
+    let o = c.outline_frame-o.ensures in
+    let e = c.in-Octets.is in
+    let t = c.text_of-l.ensures in
+    (c.requires.0, (c.requires.1, (frame-short f o e t, (same-outline f o e t, is-octets e))))
+
+pub returns-in-Refused : goal.returns-in-Refused
+returns-in-Refused c =
+    let a = c.args in
+    tells c.reply_with.ensures refl ∙ unread-tells a.frame.now c.outline_frame-o.ensures a.p (state a.t a.buffer.now) c.in-Refused.is
+
+pub returns-in-Octets : goal.returns-in-Octets
+returns-in-Octets c =
+    let a = c.args in
+    c.hear.ensures
+    ∙ saying-tells a.frame.now c.outline_frame-o.ensures c.in-Octets.is c.text_of-l.ensures a.p (state a.t a.buffer.now) c.source_of.ensures

@@ -1,0 +1,13 @@
+-- `lldpdu::extent::rest_extent` meets its contract: the walk from here has the extent of the walk from the start.
+-- The laws are walk_refused, walk_end and walk-next of the walk.
+use Prim.Native.Nat.{◌-◌}
+use mathlib.Core.Path.{◌≡◌}
+use lib.ListN.{length, drop}
+use Rattle.walk.specs.Walk.{walk}
+use Rattle.lldpdu.proofs.extent.rest_extent.Given as goal
+
+abbrev pub invariant-loop-n : goal.invariant-loop-n
+invariant-loop-n l = (walk (drop l.at l.s) 0 l.at).extent ≡ (walk (drop l.from l.s) 0 l.from).extent
+
+abbrev pub decreases-loop-n : goal.decreases-loop-n
+decreases-loop-n l = length l.s - l.at
