@@ -15,7 +15,7 @@ CAMEL = re.compile(r"[a-z][a-z0-9]*[A-Z][A-Za-z0-9]*$")
 FILES = {"crates/replay/specs/Contracts.antt": "crates/replay/specs/Promises.antt"}
 PATHS = {"Rattle.replay.specs.Contracts": "Rattle.replay.specs.Promises", "specs/Contracts.antt": "specs/Promises.antt"}
 # Names that would fall together with a field of a record, and one that is declared on two lines.
-APART = {"noneLeft": "is_none_left", "sendersLong": "senders_len", "descriptionLong": "description_long"}
+APART = {"getD-tab": "get_or-tab", "tab-getD": "tab-get_or", "getD-view": "get_or-view", "noneLeft": "is_none_left", "sendersLong": "senders_len", "descriptionLong": "description_long"}
 # Lemmas that the kit's table had spelled as a definition is spelled now: such a lemma ends in `_lem`. One row for each file that has it.
 LEMMAS = {
     "crates/lldpdu/proofs/RowsLaws.antt": ["later_rows"],
