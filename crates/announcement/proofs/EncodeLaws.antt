@@ -7,8 +7,9 @@ use mathlib.Core.Option.{Option, none}
 use native.Mathlib.Omega.{arith}
 use lib.ListN.{length}
 use Rattle.octets.specs.Header.{high, low}
-use Rattle.output.specs.Output.{Output, puts}
-use Rattle.output.proofs.OutputLaws.{puts_then, puts-same}
+use Rattle.output.specs.Output.{Put}
+use Rattle.output.specs.declared.Output.{Output as Lent}
+use Rattle.output.proofs.OutputLaws.{put_then, put_same}
 use Rattle.ids.specs.Id.{Id, id}
 use Rattle.system.specs.System.{SystemInfo, unsaid}
 use Rattle.reading.specs.Meaning.{Said}
@@ -26,13 +27,13 @@ module _ (x : SystemInfo) where
   unfolding system_tlvs
   system-split = simp octets-append
 
-  pub system-put : (o : Output) {p q r s : Output}
-      → p ≡ puts (octets_of (unless_empty name_tlv x.name)) o
-      → q ≡ puts (octets_of (unless_empty system_description_tlv x.description)) p
-      → r ≡ puts (octets_of (if_flagged x.capabilities)) q
-      → s ≡ puts (octets_of (map management_tlv x.management)) r
-      → s ≡ puts (octets_of (system_tlvs x)) o
-  system-put o e f g h = puts-same o (puts_then _ _ _ e (puts_then _ _ _ f (puts_then _ _ _ g h))) system-split
+  pub system-put : {o p q r s : Lent}
+      → Put (octets_of (unless_empty name_tlv x.name)) o p
+      → Put (octets_of (unless_empty system_description_tlv x.description)) p q
+      → Put (octets_of (if_flagged x.capabilities)) q r
+      → Put (octets_of (map management_tlv x.management)) r s
+      → Put (octets_of (system_tlvs x)) o s
+  system-put e f g h = put_same (put_then _ _ e (put_then _ _ f (put_then _ _ g h))) system-split
 
 module _ (d : Said) where
   abbrev words_put : List ℕ
@@ -47,13 +48,13 @@ module _ (d : Said) where
   devices-split = simp octets-append
 
   -- the device information put one behind the other, from the output o on
-  pub devices-put : (o : Output) {p q r s : Output}
-      → p ≡ puts (device_put 1 d.category) o
-      → q ≡ puts (device_put 2 d.manufacturer) p
-      → r ≡ puts (device_put 3 d.model) q
-      → s ≡ puts (device_put 4 d.number) r
-      → s ≡ puts (octets_of (device_tlvs d)) o
-  devices-put o e f g h = puts-same o (puts_then _ _ _ e (puts_then _ _ _ f (puts_then _ _ _ g h))) devices-split
+  pub devices-put : {o p q r s : Lent}
+      → Put (device_put 1 d.category) o p
+      → Put (device_put 2 d.manufacturer) p q
+      → Put (device_put 3 d.model) q r
+      → Put (device_put 4 d.number) r s
+      → Put (octets_of (device_tlvs d)) o s
+  devices-put e f g h = put_same (put_then _ _ e (put_then _ _ f (put_then _ _ g h))) devices-split
 
   fields_split :
       words_put ++ (octets_of (system_tlvs d.system) ++ (octets_of (device_tlvs d) ++ (octets_of (if_linked d.link) ++ (octets_of (if_extended d.extension) ++ octets_of (if_listed d.list)))))
@@ -62,16 +63,16 @@ module _ (d : Said) where
   fields_split = simp octets-append
 
   -- the fields, likewise
-  pub fields-put : (o : Output) {p q r s t u : Output}
-      → p ≡ puts words_put o
-      → q ≡ puts (octets_of (system_tlvs d.system)) p
-      → r ≡ puts (octets_of (device_tlvs d)) q
-      → s ≡ puts (octets_of (if_linked d.link)) r
-      → t ≡ puts (octets_of (if_extended d.extension)) s
-      → u ≡ puts (octets_of (if_listed d.list)) t
-      → u ≡ puts (octets_of (field_tlvs d)) o
-  fields-put o e f g h i j =
-      puts-same o (puts_then _ _ _ e (puts_then _ _ _ f (puts_then _ _ _ g (puts_then _ _ _ h (puts_then _ _ _ i j))))) fields_split
+  pub fields-put : {o p q r s t u : Lent}
+      → Put words_put o p
+      → Put (octets_of (system_tlvs d.system)) p q
+      → Put (octets_of (device_tlvs d)) q r
+      → Put (octets_of (if_linked d.link)) r s
+      → Put (octets_of (if_extended d.extension)) s t
+      → Put (octets_of (if_listed d.list)) t u
+      → Put (octets_of (field_tlvs d)) o u
+  fields-put e f g h i j =
+      put_same (put_then _ _ e (put_then _ _ f (put_then _ _ g (put_then _ _ h (put_then _ _ i j))))) fields_split
 
   encode-split :
       written (chassis_tlv d.chassis)
@@ -83,15 +84,15 @@ module _ (d : Said) where
       (sym (octets-append (field_tlvs d) (end_tlv ∷ [])))
 
   -- the whole, likewise
-  pub encode-put : (o : Output) {p q r s t : Output}
-      → p ≡ puts (written (chassis_tlv d.chassis)) o
-      → q ≡ puts (written (port_tlv d.port)) p
-      → r ≡ puts (written (seconds_tlv d.seconds)) q
-      → s ≡ puts (octets_of (field_tlvs d)) r
-      → t ≡ puts (written end_tlv) s
-      → t ≡ puts (encode d) o
-  encode-put o e f g h i =
-      puts-same o (puts_then _ _ _ e (puts_then _ _ _ f (puts_then _ _ _ g (puts_then _ _ _ h i)))) encode-split
+  pub encode-put : {o p q r s t : Lent}
+      → Put (written (chassis_tlv d.chassis)) o p
+      → Put (written (port_tlv d.port)) p q
+      → Put (written (seconds_tlv d.seconds)) q r
+      → Put (octets_of (field_tlvs d)) r s
+      → Put (written end_tlv) s t
+      → Put (encode d) o t
+  encode-put e f g h i =
+      put_same (put_then _ _ e (put_then _ _ f (put_then _ _ g (put_then _ _ h i)))) encode-split
 
   -- a chassis that is an address of six octets: these octets stand first, as when no other chassis could be written
   pub six-as-before : (a : List ℕ) → d.chassis ≡ id 4 a → length a ≡ 6

@@ -1,16 +1,16 @@
--- Laws of the number that a word says: one octet more, and the end, as the loop over them goes.
+-- Laws of the number that a word says: one octet more, and the word octet by octet.
 -- A number that is too large stays so, whatever digits follow.
-use Prim.Native.Nat.{ℕ, suc, ◌+◌, ◌*◌, ◌-◌, ◌<◌, ◌≤◌, min}
+use Prim.Native.Nat.{ℕ, ◌+◌, ◌*◌, ◌-◌, ◌≤◌, min}
 use mathlib.Core.Path.{◌≡◌, refl, sym, ap, ◌∙◌}
 use mathlib.Core.List.{List, [], ◌∷◌, map}
+use mathlib.Core.Logic.{◌≢◌}
 use mathlib.Core.Bool.{Bool, true, false}
 use native.Mathlib.Nat.{min-eq_left, min-eq_right, min-le_right}
-use native.Mathlib.Numerals.{add-one}
 use native.Mathlib.Omega.{arith}
-use borrow.Author.Tests.{le-leb, lt-leb, leb-false, leb-true}
+use borrow.Author.Tests.{leb-false, leb-true}
 use lib.Dec.{leb}
-use lib.ListN.{length, drop, get_or, drop_of_length-le}
-use lib.Seq.{drop-cons}
+use lib.ListN.{length}
+use Rattle.std.specs.List.{fold}
 use Rattle.tally.specs.Tests.{pick, all}
 use Rattle.arguments.specs.Number.{greatest, is_digit, value_from, said_from, number_in, with_digit}
 
@@ -50,27 +50,9 @@ said-step n b l = go (is_digit b)
     go true = same-cut (all (map is_digit l)) (n * 10 + (b - 48)) l
     go false = stays (all (map is_digit l)) l
 
--- One octet more, as its tests go
-
-other-said : (n b : ℕ) → is_digit b ≡ false → greatest ≡ with_digit n b
-unfolding said_from with_digit
-other-said n b e = rw e
-
-pub below-said : (n b : ℕ) → b < 48 → greatest ≡ with_digit n b
-below-said n b h = other-said n b (rw (lt-leb 48 b h))
-
-pub above-said : (n b : ℕ) → 48 ≤ b → 57 < b → greatest ≡ with_digit n b
-above-said n b h k = other-said n b (rw (le-leb 48 b h, lt-leb b 57 k))
-
-digit-said : (n b : ℕ) → 48 ≤ b → b ≤ 57 → min (n * 10 + (b - 48)) greatest ≡ with_digit n b
-unfolding said_from with_digit value_from
-digit-said n b h k = rw (le-leb 48 b h, le-leb b 57 k)
-
-pub large-said : (n b : ℕ) → 48 ≤ b → b ≤ 57 → greatest < n * 10 + (b - 48) → greatest ≡ with_digit n b
-large-said n b h k l = sym (min-eq_right (omega (arith, l))) ∙ digit-said n b h k
-
-pub more-said : (n b : ℕ) → 48 ≤ b → b ≤ 57 → n * 10 + (b - 48) ≤ greatest → n * 10 + (b - 48) ≡ with_digit n b
-more-said n b h k l = sym (min-eq_left l) ∙ digit-said n b h k
+none-more : (n : ℕ) → n ≤ greatest → n ≡ said_from n []
+unfolding said_from value_from
+none-more n h = sym (min-eq_left h)
 
 fits : (b : Bool) (v : ℕ) → pick b (min v greatest) greatest ≤ greatest
 fits true v = min-le_right v greatest
@@ -80,22 +62,18 @@ pub said_fits : (n b : ℕ) → with_digit n b ≤ greatest
 unfolding said_from with_digit
 said_fits n b = fits (all (map is_digit (b ∷ []))) (value_from n (b ∷ []))
 
--- The loop over a word
+-- A word, octet by octet
+
+said-fold : (n : ℕ) (l : List ℕ) → n ≤ greatest → fold with_digit n l ≡ said_from n l
+said-fold n [] h = none-more n h
+said-fold n (b ∷ l) h = said-fold (with_digit n b) l (said_fits n b) ∙ said-step n b l
+
+pub word_said : (l : List ℕ) → length l ≢ 0 → fold with_digit 0 l ≡ number_in l
+unfolding number_in
+word_said [] h = absurd (h refl)
+word_said (b ∷ l) h = said-fold 0 (b ∷ l) (omega arith)
 
 pub none_said : (l : List ℕ) → length l ≡ 0 → greatest ≡ number_in l
 unfolding number_in
 none_said [] e = refl
 none_said (b ∷ l) e = absurd (omega (arith, e))
-
-pub start-said : (l : List ℕ) → 0 < length l → said_from 0 l ≡ number_in l
-unfolding number_in
-start-said [] h = absurd (omega (arith, h))
-start-said (b ∷ l) h = refl
-
-module _ (n : ℕ) (l : List ℕ) (i : ℕ) where
-  pub next-said : i < length l → said_from (with_digit n (get_or l i 0)) (drop (i + 1) l) ≡ said_from n (drop i l)
-  next-said h = rw (add-one i, drop-cons l i 0 h) (said-step n (get_or l i 0) (drop (suc i) l))
-
-  pub end-said : n ≤ greatest → length l ≤ i → n ≡ said_from n (drop i l)
-  unfolding said_from value_from
-  end-said h k = rw (drop_of_length-le l k) (sym (min-eq_left h))

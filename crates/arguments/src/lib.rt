@@ -5,35 +5,25 @@
 ghost use Rattle.std.specs.Prelude.{◌≡◌};
 ghost use Rattle.arguments.specs.Number.{with_digit, number_in};
 
-const GREATEST: usize = usize::MAX;
-
 // The number with one digit more. The greatest stays the greatest.
+#[tactic(auto, unfolding(crate::specs::Number::with_digit, crate::specs::Number::said_from, crate::specs::Number::value_from))]
 fn with_digit(n: usize, octet: u8) -> usize
     ensures { result ≡ with_digit n octet }
 {
-    if octet < b'0' {
-        return GREATEST;
+    match octet {
+        b'0'..=b'9' => n
+            .saturating_mul(10)
+            .saturating_add(usize::from(octet - b'0')),
+        _ => usize::MAX,
     }
-    if octet > b'9' {
-        return GREATEST;
-    }
-    let digit = (octet - b'0') as usize;
-    if n > (GREATEST - digit) / 10 {
-        return GREATEST;
-    }
-    n * 10 + digit
 }
 
 // The number that a word says. A port that is too large is refused with 2, and a limit that is too large takes all frames (J3).
 pub fn number_in(word: &[u8]) -> usize
     ensures { result ≡ number_in word.now }
 {
-    if word.len() == 0 {
-        return GREATEST;
+    if word.is_empty() {
+        return usize::MAX;
     }
-    let mut n = 0;
-    for i in 0..word.len() {
-        n = with_digit(n, word[i]);
-    }
-    n
+    word.iter().fold(0, |n, &octet| with_digit(n, octet))
 }

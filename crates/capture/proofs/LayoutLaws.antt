@@ -1,28 +1,27 @@
 -- Laws of the headers of a capture: a number from its four octets, and that a header says the same wherever it ends.
 -- The front of a file that holds a header is read as the whole file is.
-use Prim.Native.Nat.{ℕ, ◌+◌, ◌*◌, ◌≤◌}
+use Prim.Native.Nat.{ℕ, ◌+◌, ◌≤◌}
 use mathlib.Core.Path.{◌≡◌, sym, ap, ap₂, ◌∙◌}
 use mathlib.Core.List.{List, [], ◌∷◌}
 use mathlib.Core.Bool.{Bool, true, false}
 use native.Mathlib.Omega.{arith}
-use borrow.Author.Tests.{eq-eqb, ne_eqb}
 use lib.ListN.{take, get_or}
 use lib.Seq.{get_or-take}
 use lib.Dec.{eqb}
+use Rattle.std.specs.Int.{w32, from_le_bytes, from_be_bytes}
 use Rattle.tally.specs.Tests.{pick, both}
 use Rattle.octets.specs.Numbers.{value_from, value_of}
 use Rattle.capture.specs.Layout.{ordered, word, file_header, magic, ethernet, opens, layout_of}
 use Rattle.capture.specs.declared.Layout.TheVariants.{HighFirst, LowFirst, Foreign}
 
-pub four_is : (a b c d : ℕ) → ((a * 256 + b) * 256 + c) * 256 + d ≡ value_of (a ∷ b ∷ c ∷ d ∷ [])
+-- std's numbers of four octets, in either order
+pub high_first : (a b c d : ℕ) → from_be_bytes w32 (a ∷ b ∷ c ∷ d ∷ []) ≡ value_of (a ∷ b ∷ c ∷ d ∷ [])
 unfolding value_from
-four_is a b c d = omega arith
+high_first a b c d = omega arith
 
--- the octets that the code has in hand
-pub word-is : (low : Bool) (l : List ℕ) (i : ℕ) {a b c d r : ℕ} → a ≡ get_or l i 0 → b ≡ get_or l (i + 1) 0 → c ≡ get_or l (i + 2) 0 → d ≡ get_or l (i + 3) 0
-    → r ≡ ordered low a b c d → r ≡ word low l i
-unfolding word
-word-is low l i ea eb ec ed e = e ∙ (λ j. ordered low (ea j) (eb j) (ec j) (ed j))
+pub low_first : (a b c d : ℕ) → from_le_bytes w32 (a ∷ b ∷ c ∷ d ∷ []) ≡ value_of (d ∷ c ∷ b ∷ a ∷ [])
+unfolding value_from
+low_first a b c d = omega arith
 
 word-take : (low : Bool) (n : ℕ) (l : List ℕ) (i : ℕ) → i + 4 ≤ n → word low (take n l) i ≡ word low l i
 unfolding word
@@ -43,27 +42,3 @@ opens-front low l k e =
 pub layout-front : (l k : List ℕ) → take file_header l ≡ take file_header k → layout_of l ≡ layout_of k
 unfolding layout_of
 layout-front l k e = ap₂ (λ (a b : Bool). pick a HighFirst (pick b LowFirst Foreign)) (opens-front false l k e) (opens-front true l k e)
-
--- The header line by line, as the code asks
-
-module _ (low : Bool) (l : List ℕ) where
-  pub opens-link : {a b : ℕ} → a ≡ word low l 0 → a ≡ magic → b ≡ word low l 20 → eqb b ethernet ≡ opens low l
-  unfolding opens
-  opens-link e m f = sym (rw (eq-eqb (word low l 0) magic (sym e ∙ m), ← f))
-
-  pub opens_not : {a : ℕ} → a ≡ word low l 0 → (a ≡ magic → ⊥) → false ≡ opens low l
-  unfolding opens
-  opens_not e m = sym (rw (ne_eqb (word low l 0) magic (λ q. m (e ∙ q))))
-
-module _ (l : List ℕ) where
-  pub layout-high : true ≡ opens false l → HighFirst ≡ layout_of l
-  unfolding layout_of
-  layout-high e = rw (← e)
-
-  pub layout-low : false ≡ opens false l → true ≡ opens true l → LowFirst ≡ layout_of l
-  unfolding layout_of
-  layout-low e f = rw (← e, ← f)
-
-  pub layout-foreign : false ≡ opens false l → false ≡ opens true l → Foreign ≡ layout_of l
-  unfolding layout_of
-  layout-foreign e f = rw (← e, ← f)

@@ -2,8 +2,7 @@
 // Every function takes any octets; where a header is not all there, what is missing reads as 0.
 #![tactic(auto)]
 
-ghost use Rattle.std.specs.Prelude.{◌≡◌, [], ◌∷◌, ◌<◌};
-ghost use Rattle.octets.specs.Numbers.{value_of};
+ghost use Rattle.std.specs.Prelude.{◌≡◌, ◌<◌};
 ghost use Rattle.capture.specs.Layout.{word, opens, layout_of, stamp, captured, original};
 
 use octets::octet;
@@ -21,53 +20,45 @@ pub enum Layout {
     Foreign,
 }
 
-fn wide(b: u8) -> u32
-    ensures { result ≡ b }
-{
-    b as u32
-}
-
-fn four(a: u8, b: u8, c: u8, d: u8) -> u32
-    ensures { result ≡ value_of (a ∷ b ∷ c ∷ d ∷ []) }
-{
-    ((wide(a) * 256 + wide(b)) * 256 + wide(c)) * 256 + wide(d)
-}
-
 // The four octets at a place of a header as one number.
+#[tactic(auto, using(crate::proofs::LayoutLaws::low_first, crate::proofs::LayoutLaws::high_first), unfolding(crate::specs::Layout::word))]
 fn word_at(low: bool, s: &[u8], i: usize) -> u32
     requires { i < 24 }
     ensures { result ≡ word low s.now i }
 {
-    let a = octet(s, i);
-    let b = octet(s, i + 1);
-    let c = octet(s, i + 2);
-    let d = octet(s, i + 3);
+    let octets = [
+        octet(s, i),
+        octet(s, i + 1),
+        octet(s, i + 2),
+        octet(s, i + 3),
+    ];
     if low {
-        return four(d, c, b, a);
+        u32::from_le_bytes(octets)
+    } else {
+        u32::from_be_bytes(octets)
     }
-    four(a, b, c, d)
 }
 
 // Whether a file header is one, read in this order (C2).
+#[tactic(auto, unfolding(crate::specs::Layout::opens))]
 fn is_header(low: bool, header: &[u8]) -> bool
     ensures { result ≡ opens low header.now }
 {
-    if word_at(low, header, 0) == MAGIC {
-        return word_at(low, header, 20) == ETHERNET;
-    }
-    false
+    let magic = word_at(low, header, 0);
+    magic == MAGIC && word_at(low, header, 20) == ETHERNET
 }
 
+#[tactic(auto, unfolding(crate::specs::Layout::layout_of))]
 pub fn layout_of(header: &[u8]) -> Layout
     ensures { result ≡ layout_of header.now }
 {
     if is_header(false, header) {
-        return Layout::HighFirst;
+        Layout::HighFirst
+    } else if is_header(true, header) {
+        Layout::LowFirst
+    } else {
+        Layout::Foreign
     }
-    if is_header(true, header) {
-        return Layout::LowFirst;
-    }
-    Layout::Foreign
 }
 
 pub fn stamp_of(low: bool, header: &[u8]) -> u32

@@ -3,27 +3,26 @@
 ghost use Rattle.std.specs.Prelude.{◌≤◌, ◌<◌};
 
 use crate::case::Case;
-use replay::{Fed, Replayed, begin, feed, finish};
+use refusal::Refusal;
+use replay::{Fed, begin, feed, finish};
 use table::Table;
 
 #[derive(Clone, Copy)]
 pub(crate) struct Played {
-    pub(crate) answer: Replayed,
+    pub(crate) answer: Result<usize, Refusal>,
     pub(crate) table: Table,
 }
 
 // The last octet of the table's buffer becomes 1 where as many octets have been fed as the case says.
 fn spoil_at(buffer: &mut [u8], spoil: usize, fed: usize) {
-    if spoil != fed {
-        return;
-    }
-    if 0 < buffer.len() {
-        let last = buffer.len() - 1;
-        buffer[last] = 1;
+    if spoil == fed {
+        if let Some(last) = buffer.last_mut() {
+            *last = 1;
+        }
     }
 }
 
-// Where the piece ends that begins at an octet, by its size alone.
+// Where the piece ends that begins at an octet, by its size alone; one of size 0 is all that is left.
 fn sized_end(at: usize, size: usize, length: usize) -> usize
     requires { at < length }
     ensures { (at < result) × (result ≤ length) }
@@ -31,10 +30,7 @@ fn sized_end(at: usize, size: usize, length: usize) -> usize
     if size == 0 {
         return length;
     }
-    if size < length - at {
-        return at + size;
-    }
-    length
+    at + size.min(length - at)
 }
 
 // A piece also ends where the table is to be spoiled.
@@ -43,12 +39,7 @@ fn piece_end(at: usize, size: usize, spoil: usize, length: usize) -> usize
     ensures { (at < result) × (result ≤ length) }
 {
     let end = sized_end(at, size, length);
-    if at < spoil {
-        if spoil < end {
-            return spoil;
-        }
-    }
-    end
+    if at < spoil { end.min(spoil) } else { end }
 }
 
 pub(crate) fn play(
@@ -67,16 +58,12 @@ pub(crate) fn play(
     let mut at = 0;
     while at < capture.len() {
         let end = piece_end(at, size, c.spoil, capture.len());
-        let place = q.replay;
-        let table = q.table;
-        q = feed(place, table, buffer, room, &capture[at..end]);
+        q = feed(q.replay, q.table, buffer, room, &capture[at..end]);
         spoil_at(buffer, c.spoil, end);
         at = end;
     }
-    let place = q.replay;
-    let table = q.table;
     Played {
-        answer: finish(place),
-        table: table,
+        answer: finish(q.replay),
+        table: q.table,
     }
 }

@@ -1,59 +1,56 @@
 // The cases of the file `frames`: frames and bare LLDPDUs, three lines of answers each, and one more where there is extension link information.
 // A case is a kind (0 a frame, 1 a bare LLDPDU), the address that is asked for, two numbers that are, a length of two octets, and the octets.
 use crate::print::{say_extension, say_naming, say_outline, say_reading};
-use octets::{octet, pair, six};
-use reader::{Part, link_naming, outline_frame, outline_lldpdu, read_frame, read_lldpdu, text_of};
+use input::{number_at, split_behind};
+use naming::link_naming;
+use octets::{octet, six};
+use reader::{outline_frame, outline_lldpdu, read_frame, read_lldpdu};
 use std::io;
+use text::{Part, text_of};
+
+// The octets of a case before its frame or LLDPDU.
+const HEAD: usize = 11;
 
 // The parts of a frame's reading count from the octet behind the header (F1).
+const LLDPDU: Part = Part {
+    start: 14,
+    len: 65535,
+};
+
 fn answer(
     rt: &impl Print,
     case: usize,
-    kind: u8,
+    is_frame: bool,
     address: [u8; 6],
     i: usize,
     j: usize,
     octets: &[u8],
 ) -> io::Result<()> {
-    if kind == 0 {
-        let lldpdu = text_of(
-            octets,
-            Part {
-                start: 14,
-                len: octets.len(),
-            },
-        );
-        say_outline(rt, case, lldpdu, outline_frame(octets))?;
-        let r = read_frame(octets);
-        say_reading(rt, case, lldpdu, r)?;
-        say_extension(rt, case, lldpdu, r, i, j)?;
-        say_naming(rt, case, lldpdu, link_naming(lldpdu, address))
+    let (lldpdu, outline, reading) = if is_frame {
+        let lldpdu = text_of(octets, LLDPDU);
+        (lldpdu, outline_frame(octets), read_frame(octets))
     } else {
-        say_outline(rt, case, octets, outline_lldpdu(octets))?;
-        let r = read_lldpdu(octets);
-        say_reading(rt, case, octets, r)?;
-        say_extension(rt, case, octets, r, i, j)?;
-        say_naming(rt, case, octets, link_naming(octets, address))
+        (octets, outline_lldpdu(octets), read_lldpdu(octets))
+    };
+    say_outline(rt, case, lldpdu, outline)?;
+    say_reading(rt, case, lldpdu, reading)?;
+    if let Ok(r) = reading {
+        say_extension(rt, case, lldpdu, r, i, j)?;
     }
+    say_naming(rt, case, lldpdu, link_naming(lldpdu, address))
 }
 
-// The case at the front of the octets; how many of them it has.
-pub(crate) fn run_case(rt: &impl Print, case: usize, octets: &[u8]) -> io::Result<u32> {
-    let length = pair(octet(octets, 9), octet(octets, 10));
+// The case at the front of the octets; what stands behind it.
+pub(crate) fn run_case<'a>(rt: &impl Print, case: usize, octets: &'a [u8]) -> io::Result<&'a [u8]> {
+    let (own, behind) = split_behind(octets, HEAD, number_at(octets, 9, 2));
     answer(
         rt,
         case,
-        octet(octets, 0),
+        octet(octets, 0) == 0,
         six(octets, 1),
-        octet(octets, 7) as usize,
-        octet(octets, 8) as usize,
-        text_of(
-            octets,
-            Part {
-                start: 11,
-                len: length as usize,
-            },
-        ),
+        number_at(octets, 7, 1),
+        number_at(octets, 8, 1),
+        own,
     )?;
-    Ok(11 + length as u32)
+    Ok(behind)
 }

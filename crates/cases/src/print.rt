@@ -1,101 +1,75 @@
 // What the cases print: answers and octets, in the one layout that the stored output has.
-// An answer is made into numbers; a form, which is named by its number, says what stands between them.
+// An answer is made into numbers; a form says what stands between them.
+use extension::{address_at, counts_of, item_at, pairing_at, port_item_at};
 use forms::put_form;
-use reader::{
-    Capabilities, Description, Extent, IdPart, Link, Naming, Optional, Outline, Part, Parts,
-    Reading, System, address_at, counts_of, item_at, nth_part, pairing_at, part_count,
-    port_item_at, text_of,
-};
+use ids::IdPart;
+use lldpdu::Outline;
+use naming::Naming;
+use output::Output;
+use reading::{Description, Link, Reading};
+use refusal::Refusal;
 use std::io;
+use system::System;
+use text::{Part, Parts, nth_part, part_count, text_of};
 
-// The numbers of the forms below.
-pub(crate) const REFUSED: usize = 1;
+// A form's number is its place among the forms below.
+#[derive(Clone, Copy)]
+pub(crate) enum Form {
+    Refused = 1,
+    Wrote,
+    Output,
+    AgainRefused,
+    Again,
+    OutlineRefused,
+    OutlineValid,
+    ReadingRefused,
+    ReadingNo,
+    ReadingYes,
+    Strings,
+    Link,
+    Absent,
+    Present,
+    NoCapabilities,
+    Capabilities,
+    NoAddress,
+    OneAddress,
+    TwoAddresses,
+    ThreeAddresses,
+    FourAddresses,
+    NamingRefused,
+    NamingNone,
+    Naming,
+    Counts,
+    Asked,
+}
 
-pub(crate) const WROTE: usize = 2;
-
-pub(crate) const OUTPUT: usize = 3;
-
-pub(crate) const AGAIN_REFUSED: usize = 4;
-
-pub(crate) const AGAIN: usize = 5;
-
-const OUTLINE_REFUSED: usize = 6;
-
-const OUTLINE_VALID: usize = 7;
-
-const READING_REFUSED: usize = 8;
-
-const READING_NO: usize = 9;
-
-const READING_YES: usize = 10;
-
-const STRINGS: usize = 11;
-
-const LINK: usize = 12;
-
-const ABSENT: usize = 13;
-
-const PRESENT: usize = 14;
-
-const NO_CAPABILITIES: usize = 15;
-
-const CAPABILITIES: usize = 16;
-
-// The form of no management address; those of one to four stand behind it.
-const NO_MANAGEMENT: usize = 17;
-
-const NAMING_REFUSED: usize = 22;
-
-const NAMING_NONE: usize = 23;
-
-const NAMING: usize = 24;
-
-const COUNTS: usize = 25;
-
-const ASKED: usize = 26;
+const FORMS: &[u8] =
+    b"# refused #\n|# wrote #\n|# output % rest #\n|# again refused #\n|# again # %\n|# outline refused #\n|# outline valid # # % # % #\n|# reading refused #\n|# reading valid # no # % # % #|# reading valid # yes # % # % #| % % % % %| %/%/%| absent| %| % % absent| % % #/#| none\n| %\n| %/%\n| %/%/%\n| %/%/%/%\n|# naming refused #\n|# naming none\n|# naming # # # #\n|# extension %/% # # # # #| % % % %\n";
 
 // More than the longest words, which spell out a buffer of 1,600 octets.
 const LINE: usize = 4096;
 
-// A form, with its marks filled in.
-pub(crate) fn say(
-    rt: &impl Print,
-    form: usize,
-    values: [usize; 10],
-    text: &[u8],
-) -> io::Result<()> {
-    let mut line = [0u8; LINE];
-    let end = put_form(
-        &mut line,
-        0,
-        b"# refused #\n|# wrote #\n|# output % rest #\n|# again refused #\n|# again # %\n|# outline refused #\n|# outline valid # # % # % #\n|# reading refused #\n|# reading valid # no # % # % #|# reading valid # yes # % # % #| % % % % %| %/%/%| absent| %| % % absent| % % #/#| none\n| %\n| %/%\n| %/%/%\n| %/%/%/%\n|# naming refused #\n|# naming none\n|# naming # # # #\n|# extension %/% # # # # #| % % % %\n",
-        form,
-        &values,
-        text,
-    );
-    rt.write_all(text_of(&line, Part { start: 0, len: end }))
+// A form, with its marks filled in: with the values, and with octets of the text.
+pub(crate) fn say(rt: &impl Print, form: Form, values: &[usize], text: &[u8]) -> io::Result<()> {
+    let mut room = [0u8; LINE];
+    let mut line = Output::new(&mut room);
+    put_form(&mut line, FORMS, form as usize, values, text);
+    rt.write_all(line.front())
 }
 
-// A form that has two numbers, and then may have the whole text.
-pub(crate) fn say_two(
+pub(crate) fn say_refused(
     rt: &impl Print,
-    form: usize,
-    first: usize,
-    second: usize,
-    text: &[u8],
+    form: Form,
+    case: usize,
+    refusal: Refusal,
 ) -> io::Result<()> {
-    say(
-        rt,
-        form,
-        [first, second, 0, text.len(), 0, 0, 0, 0, 0, 0],
-        text,
-    )
+    say(rt, form, &[case, refusal as usize], b"")
 }
 
 // What an outline and a reading both say of an announcement that is valid: its identity and its seconds.
 fn say_identity(
     rt: &impl Print,
-    title: usize,
+    form: Form,
     case: usize,
     length: usize,
     lldpdu: &[u8],
@@ -105,8 +79,8 @@ fn say_identity(
 ) -> io::Result<()> {
     say(
         rt,
-        title,
-        [
+        form,
+        &[
             case,
             length,
             chassis.subtype as usize,
@@ -116,7 +90,6 @@ fn say_identity(
             port.octets.start,
             port.octets.len,
             seconds as usize,
-            0,
         ],
         lldpdu,
     )
@@ -126,101 +99,65 @@ pub(crate) fn say_outline(
     rt: &impl Print,
     case: usize,
     lldpdu: &[u8],
-    o: Outline,
+    outline: Result<Outline, Refusal>,
 ) -> io::Result<()> {
-    let extent = o.extent;
-    match extent {
-        Extent::Refused(n) => say_two(rt, OUTLINE_REFUSED, case, n as usize, lldpdu),
-        Extent::Octets(length) => {
-            say_identity(
-                rt,
-                OUTLINE_VALID,
-                case,
-                length,
-                lldpdu,
-                o.chassis,
-                o.port,
-                o.seconds,
-            )
-        }
+    match outline {
+        Ok(o) => say_identity(
+            rt,
+            Form::OutlineValid,
+            case,
+            o.octets,
+            lldpdu,
+            o.chassis,
+            o.port,
+            o.seconds,
+        ),
+        Err(refusal) => say_refused(rt, Form::OutlineRefused, case, refusal),
     }
 }
 
-fn say_link(rt: &impl Print, lldpdu: &[u8], link: Link) -> io::Result<()> {
+fn say_part(rt: &impl Print, lldpdu: &[u8], part: Option<Part>) -> io::Result<()> {
+    match part {
+        Some(p) => say(rt, Form::Present, &[p.start, p.len], lldpdu),
+        None => say(rt, Form::Absent, &[], lldpdu),
+    }
+}
+
+fn say_link(rt: &impl Print, lldpdu: &[u8], link: Option<Link>) -> io::Result<()> {
     match link {
-        Link::Absent => say_two(rt, ABSENT, 0, 0, lldpdu),
-        Link::Table {
-            interface,
-            port,
-            addresses,
-        } => say(
+        Some(l) => say(
             rt,
-            LINK,
-            [
-                interface.start,
-                interface.len,
-                port.start,
-                port.len,
-                addresses.start,
-                addresses.len,
-                0,
-                0,
-                0,
-                0,
+            Form::Link,
+            &[
+                l.interface.start,
+                l.interface.len,
+                l.port.start,
+                l.port.len,
+                l.addresses.start,
+                l.addresses.len,
             ],
             lldpdu,
         ),
-    }
-}
-
-fn say_optional(rt: &impl Print, lldpdu: &[u8], o: Optional) -> io::Result<()> {
-    match o {
-        Optional::Absent => say_two(rt, ABSENT, 0, 0, lldpdu),
-        Optional::Present(p) => say_two(rt, PRESENT, p.start, p.len, lldpdu),
-    }
-}
-
-// The form of capabilities, and its two numbers.
-#[derive(Clone, Copy)]
-struct Flags {
-    form: usize,
-    able: usize,
-    enabled: usize,
-}
-
-fn flags_of(c: Capabilities) -> Flags {
-    match c {
-        Capabilities::Absent => Flags {
-            form: NO_CAPABILITIES,
-            able: 0,
-            enabled: 0,
-        },
-        Capabilities::Flags { able, enabled } => Flags {
-            form: CAPABILITIES,
-            able: able as usize,
-            enabled: enabled as usize,
-        },
+        None => say(rt, Form::Absent, &[], lldpdu),
     }
 }
 
 // System name, system description and capabilities.
 fn say_system(rt: &impl Print, lldpdu: &[u8], x: System) -> io::Result<()> {
-    let capabilities = x.capabilities;
-    let flags = flags_of(capabilities);
+    let (form, able, enabled) = match x.capabilities {
+        Some(c) => (Form::Capabilities, c.able as usize, c.enabled as usize),
+        None => (Form::NoCapabilities, 0, 0),
+    };
     say(
         rt,
-        flags.form,
-        [
+        form,
+        &[
             x.name.start,
             x.name.len,
             x.description.start,
             x.description.len,
-            flags.able,
-            flags.enabled,
-            0,
-            0,
-            0,
-            0,
+            able,
+            enabled,
         ],
         lldpdu,
     )
@@ -228,14 +165,21 @@ fn say_system(rt: &impl Print, lldpdu: &[u8], x: System) -> io::Result<()> {
 
 // As many as there are, each in the form for that number.
 fn say_management(rt: &impl Print, lldpdu: &[u8], l: Parts) -> io::Result<()> {
+    let form = match part_count(l) {
+        0 => Form::NoAddress,
+        1 => Form::OneAddress,
+        2 => Form::TwoAddresses,
+        3 => Form::ThreeAddresses,
+        _ => Form::FourAddresses,
+    };
     let first = nth_part(l, 0);
     let second = nth_part(l, 1);
     let third = nth_part(l, 2);
     let fourth = nth_part(l, 3);
     say(
         rt,
-        NO_MANAGEMENT + part_count(l),
-        [
+        form,
+        &[
             first.start,
             first.len,
             second.start,
@@ -244,23 +188,16 @@ fn say_management(rt: &impl Print, lldpdu: &[u8], l: Parts) -> io::Result<()> {
             third.len,
             fourth.start,
             fourth.len,
-            0,
-            0,
         ],
         lldpdu,
     )
 }
 
 fn say_fields(rt: &impl Print, lldpdu: &[u8], d: Description) -> io::Result<()> {
-    let link = d.link;
-    let extension = d.extension;
-    let list = d.list;
-    let system = d.system;
-    let management = system.management;
     say(
         rt,
-        STRINGS,
-        [
+        Form::Strings,
+        &[
             d.words.start,
             d.words.len,
             d.category.start,
@@ -274,30 +211,33 @@ fn say_fields(rt: &impl Print, lldpdu: &[u8], d: Description) -> io::Result<()> 
         ],
         lldpdu,
     )?;
-    say_link(rt, lldpdu, link)?;
-    say_optional(rt, lldpdu, extension)?;
-    say_optional(rt, lldpdu, list)?;
-    say_system(rt, lldpdu, system)?;
-    say_management(rt, lldpdu, management)
+    say_link(rt, lldpdu, d.link)?;
+    say_part(rt, lldpdu, d.extension)?;
+    say_part(rt, lldpdu, d.list)?;
+    say_system(rt, lldpdu, d.system)?;
+    say_management(rt, lldpdu, d.system.management)
 }
 
 pub(crate) fn say_reading(
     rt: &impl Print,
     case: usize,
     lldpdu: &[u8],
-    r: Reading,
+    reading: Result<Reading, Refusal>,
 ) -> io::Result<()> {
-    let extent = r.extent;
-    match extent {
-        Extent::Refused(n) => say_two(rt, READING_REFUSED, case, n as usize, lldpdu),
-        Extent::Octets(length) => {
+    match reading {
+        Ok(r) => {
             let d = r.description;
-            let title = if r.htip { READING_YES } else { READING_NO };
+            let form = if r.htip {
+                Form::ReadingYes
+            } else {
+                Form::ReadingNo
+            };
             say_identity(
-                rt, title, case, length, lldpdu, d.chassis, d.port, d.seconds,
+                rt, form, case, r.octets, lldpdu, d.chassis, d.port, d.seconds,
             )?;
             say_fields(rt, lldpdu, d)
         }
+        Err(refusal) => say_refused(rt, Form::ReadingRefused, case, refusal),
     }
 }
 
@@ -306,8 +246,8 @@ fn say_asked(rt: &impl Print, case: usize, content: &[u8], i: usize, j: usize) -
     let c = counts_of(content);
     say(
         rt,
-        COUNTS,
-        [
+        Form::Counts,
+        &[
             case,
             c.interface.start,
             c.interface.len,
@@ -327,8 +267,8 @@ fn say_asked(rt: &impl Print, case: usize, content: &[u8], i: usize, j: usize) -
     let own = port_item_at(content, j);
     say(
         rt,
-        ASKED,
-        [
+        Form::Asked,
+        &[
             address.start,
             address.len,
             item.start,
@@ -337,8 +277,6 @@ fn say_asked(rt: &impl Print, case: usize, content: &[u8], i: usize, j: usize) -
             pairing.len,
             own.start,
             own.len,
-            0,
-            0,
         ],
         content,
     )
@@ -352,34 +290,32 @@ pub(crate) fn say_extension(
     i: usize,
     j: usize,
 ) -> io::Result<()> {
-    let d = r.description;
-    let extension = d.extension;
-    match extension {
-        Optional::Absent => Ok(()),
-        Optional::Present(p) => say_asked(rt, case, text_of(lldpdu, p), i, j),
+    match r.description.extension {
+        Some(p) => say_asked(rt, case, text_of(lldpdu, p), i, j),
+        None => Ok(()),
     }
 }
 
-pub(crate) fn say_naming(rt: &impl Print, case: usize, lldpdu: &[u8], n: Naming) -> io::Result<()> {
-    match n {
-        Naming::Refused(number) => say_two(rt, NAMING_REFUSED, case, number as usize, lldpdu),
-        Naming::Nowhere => say_two(rt, NAMING_NONE, case, 0, lldpdu),
-        Naming::Link { interface, port } => say(
+pub(crate) fn say_naming(
+    rt: &impl Print,
+    case: usize,
+    lldpdu: &[u8],
+    naming: Result<Option<Naming>, Refusal>,
+) -> io::Result<()> {
+    match naming {
+        Ok(Some(n)) => say(
             rt,
-            NAMING,
-            [
+            Form::Naming,
+            &[
                 case,
-                interface.octets as usize,
-                interface.value as usize,
-                port.octets as usize,
-                port.value as usize,
-                0,
-                0,
-                0,
-                0,
-                0,
+                n.interface.octets as usize,
+                n.interface.value as usize,
+                n.port.octets as usize,
+                n.port.value as usize,
             ],
             lldpdu,
         ),
+        Ok(None) => say(rt, Form::NamingNone, &[case], lldpdu),
+        Err(refusal) => say_refused(rt, Form::NamingRefused, case, refusal),
     }
 }

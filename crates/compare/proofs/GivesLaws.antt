@@ -11,6 +11,7 @@ use native.Mathlib.Omega.{arith}
 use borrow.Author.Tests.{eq-eqb, ne_eqb}
 use lib.Dec.{eqb}
 use lib.ListN.{get_or}
+use Rattle.std.specs.Prelude.{Some, None}
 use Rattle.tally.specs.Tests.{pick, both}
 use Rattle.tally.specs.Counts.{first_from}
 use Rattle.tally.specs.Tab.{tab}
@@ -20,16 +21,18 @@ use Rattle.rules.specs.Identity.{Ident, same}
 use Rattle.rules.specs.Model.{Rec, is_some, lookup}
 use Rattle.rules.proofs.IdentityLaws.{clash, same-sym}
 use Rattle.numbers.specs.Sizes.{places}
-use Rattle.output.specs.Output.{Output, puts}
-use Rattle.output.proofs.OutputLaws.{puts_then, puts-same, puts_none}
-use Rattle.place.specs.State.{State, at, lldpdu_in, whose_in, who_at, is_of, find}
+use Rattle.output.specs.Output.{Put}
+use Rattle.output.specs.declared.Output.{Output as Lent}
+use Rattle.output.proofs.OutputLaws.{put_then, put_same, put_none}
+use Rattle.place.specs.State.{State, at, lldpdu_in, whose_in, who_at, is_of, find, place_found}
+use Rattle.place.proofs.FoundLaws.{found-some, found-none}
 use Rattle.place.proofs.ThereLaws.{there-lldpdu}
 use Rattle.fitness.specs.View.{rec_of, place_of, view}
 use Rattle.fitness.proofs.ViewLaws.{place-free, place-used, get_or-view, view-long}
 use Rattle.changes.specs.Entries.{Entry, entry, left_kind, joined_kind, seconds_kind, altered_kind, place_of_who, became, of_first, of_second, in_order, octets_of}
 use Rattle.changes.proofs.OrderLaws.{octets-append, order-none, order-step}
 use Rattle.changes.proofs.BetweenLaws.{at_place, known-below}
-use Rattle.compare.specs.Compare.{first_gives, second_gives, given}
+use Rattle.compare.specs.Compare.{first_gives, second_gives}
 
 -- The search
 
@@ -111,26 +114,32 @@ module _ (a b : State) (i : ℕ) (h : i < places) where
   pub first-free : (at a i).len ≡ 0 → first_gives a b i ≡ []
   first-free e = ap (of_first (view b) i) (get_or-view a i h ∙ place-free (at a i) e)
 
-  -- used; l is what it keeps, and k is where the second table has its identity
-  module _ (u : (at a i).len ≢ 0) {l : List ℕ} (el : l ≡ lldpdu_in a.buf i (at a i).len) {k : ℕ} (ek : k ≡ find b (whose_in (at a i).port l)) where
-    its : k ≡ find b (who_at (at a i))
-    its = ek ∙ ap (λ (x : List ℕ). find b (whose_in (at a i).port x)) (el ∙ there-lldpdu a i h)
+  -- used; l is what it keeps
+  module _ (u : (at a i).len ≢ 0) {l : List ℕ} (el : l ≡ lldpdu_in a.buf i (at a i).len) where
+    its : find b (whose_in (at a i).port l) ≡ find b (who_at (at a i))
+    its = ap (λ (x : List ℕ). find b (whose_in (at a i).port x)) (el ∙ there-lldpdu a i h)
 
     gives : first_gives a b i ≡ became i (rec_of (at a i)) (place_of_who (who_at (at a i)) (view b)) (lookup (who_at (at a i)) (view b))
     gives = ap (of_first (view b) i) (get_or-view a i h ∙ place-used (at a i) u)
 
-    pub first-left : places ≤ k → first_gives a b i ≡ entry left_kind i ∷ []
-    first-left n = gives ∙ ap (became i (rec_of (at a i)) (place_of_who (who_at (at a i)) (view b))) (new-there b (who_at (at a i)) its n)
+    -- the second table does not have its identity
+    pub first-left : None ≡ place_found (find b (whose_in (at a i).port l)) → first_gives a b i ≡ entry left_kind i ∷ []
+    first-left n =
+        gives
+        ∙ ap (became i (rec_of (at a i)) (place_of_who (who_at (at a i)) (view b)))
+        (new-there b (who_at (at a i)) its (found-none (find b (whose_in (at a i).port l)) (sym n)))
 
-    -- m is what the second table keeps there, and f tells whether octets and sender are the same
-    pub first-kept : k < places → {m : List ℕ} → m ≡ lldpdu_in b.buf k (at b k).len → {f : Bool}
+    -- it has it in place k; m is what it keeps there, and f tells whether octets and sender are the same
+    pub first-kept : {k : ℕ} → Some k ≡ place_found (find b (whose_in (at a i).port l)) → {m : List ℕ} → m ≡ lldpdu_in b.buf k (at b k).len → {f : Bool}
         → f ≡ both (same_octets l m) (same_octets (at a i).sender (at b k).sender)
         → first_gives a b i ≡ beside f (at a i).seconds (at b k).seconds k
-    first-kept n {m} em {f} ef =
+    first-kept {k} o {m} em {f} ef =
+        let n = found-some (find b (whose_in (at a i).port l)) (sym o) in
+        let e : k ≡ find b (who_at (at a i)) = sym n.0 ∙ its in
         gives
-        ∙ ap₂ (became i (rec_of (at a i))) (sym (its ∙ find-place b (who_at (at a i)))) (known-there b (who_at (at a i)) its n)
+        ∙ ap₂ (became i (rec_of (at a i))) (sym (e ∙ find-place b (who_at (at a i)))) (known-there b (who_at (at a i)) e n.1)
         ∙ ap (λ (g : Bool). beside g (at a i).seconds (at b k).seconds k)
-        (sym (ef ∙ ap₂ (λ (x y : List ℕ). both (same_octets x y) (same_octets (at a i).sender (at b k).sender)) (el ∙ there-lldpdu a i h) (em ∙ there-lldpdu b k n)))
+        (sym (ef ∙ ap₂ (λ (x y : List ℕ). both (same_octets x y) (same_octets (at a i).sender (at b k).sender)) (el ∙ there-lldpdu a i h) (em ∙ there-lldpdu b k n.1)))
 
 -- A place of the second table
 
@@ -138,48 +147,45 @@ module _ (a b : State) (k : ℕ) (h : k < places) where
   pub second-free : (at b k).len ≡ 0 → second_gives a b k ≡ []
   second-free e = ap (of_second (view a) k) (get_or-view b k h ∙ place-free (at b k) e)
 
-  -- used; l is what it keeps, and i is where the first table has its identity
-  module _ (u : (at b k).len ≢ 0) {l : List ℕ} (el : l ≡ lldpdu_in b.buf k (at b k).len) {i : ℕ} (ei : i ≡ find a (whose_in (at b k).port l)) where
-    whose : i ≡ find a (who_at (at b k))
-    whose = ei ∙ ap (λ (x : List ℕ). find a (whose_in (at b k).port x)) (el ∙ there-lldpdu b k h)
+  -- used; l is what it keeps
+  module _ (u : (at b k).len ≢ 0) {l : List ℕ} (el : l ≡ lldpdu_in b.buf k (at b k).len) where
+    whose : find a (whose_in (at b k).port l) ≡ find a (who_at (at b k))
+    whose = ap (λ (x : List ℕ). find a (whose_in (at b k).port x)) (el ∙ there-lldpdu b k h)
 
     gives-second : second_gives a b k ≡ pick (is_some (lookup (who_at (at b k)) (view a))) [] (entry joined_kind k ∷ [])
     gives-second = ap (of_second (view a) k) (get_or-view b k h ∙ place-used (at b k) u)
 
-    pub second-known : i < places → second_gives a b k ≡ []
-    second-known n = gives-second ∙ ap (λ (x : Option Rec). pick (is_some x) [] (entry joined_kind k ∷ [])) (known-there a (who_at (at b k)) whose n)
+    -- the first table has its identity in place i
+    pub second-known : {i : ℕ} → Some i ≡ place_found (find a (whose_in (at b k).port l)) → second_gives a b k ≡ []
+    second-known o =
+        let n = found-some (find a (whose_in (at b k).port l)) (sym o) in
+        gives-second ∙ ap (λ (x : Option Rec). pick (is_some x) [] (entry joined_kind k ∷ [])) (known-there a (who_at (at b k)) (sym n.0 ∙ whose) n.1)
 
-    pub second-joined : places ≤ i → second_gives a b k ≡ entry joined_kind k ∷ []
-    second-joined n = gives-second ∙ ap (λ (x : Option Rec). pick (is_some x) [] (entry joined_kind k ∷ [])) (new-there a (who_at (at b k)) whose n)
-
--- One half of the list or the other
-
-module _ (a b : State) (i : ℕ) where
-  pub given-second : {j : Bool} → j ≡ true → given j a b i ≡ second_gives a b i
-  given-second e = rw e
-
-  pub given-first : {j : Bool} → j ≡ false → given j a b i ≡ first_gives a b i
-  given-first e = rw e
+    pub second-joined : None ≡ place_found (find a (whose_in (at b k).port l)) → second_gives a b k ≡ entry joined_kind k ∷ []
+    second-joined o =
+        gives-second
+        ∙ ap (λ (x : Option Rec). pick (is_some x) [] (entry joined_kind k ∷ []))
+        (new-there a (who_at (at b k)) whose (found-none (find a (whose_in (at b k).port l)) (sym o)))
 
 -- Their octets, put behind the others
 
 -- nothing is put
-pub puts-nothing : {e : List Entry} (o : Output) → e ≡ [] → o ≡ puts (octets_of e) o
-puts-nothing o q = puts-same o (puts_none o) (ap octets_of (sym q))
+pub put-nothing : {e : List Entry} (o : Lent) → e ≡ [] → Put (octets_of e) o o
+put-nothing o q = put_same (put_none o) (ap octets_of (sym q))
 
 -- what is put is what is given
-pub puts-given : {e x : List Entry} (o : Output) {p : Output} → p ≡ puts (octets_of x) o → e ≡ x → p ≡ puts (octets_of e) o
-puts-given o d q = puts-same o d (ap octets_of (sym q))
+pub put-given : {e x : List Entry} {o p : Lent} → Put (octets_of x) o p → e ≡ x → Put (octets_of e) o p
+put-given d q = put_same d (ap octets_of (sym q))
 
 -- one turn of a loop that puts what each place gives
-module _ (f : ℕ → List Entry) (o : Output) where
-  pub order-begins : o ≡ puts (octets_of (in_order f 0)) o
-  order-begins = puts-nothing o (order-none f)
+module _ (f : ℕ → List Entry) {o : Lent} where
+  pub order-begins : Put (octets_of (in_order f 0)) o o
+  order-begins = put-nothing o (order-none f)
 
-  pub order-more : (i : ℕ) {p q : Output} → p ≡ puts (octets_of (in_order f i)) o → q ≡ puts (octets_of (f i)) p → q ≡ puts (octets_of (in_order f (i + 1))) o
+  pub order-more : (i : ℕ) {p q : Lent} → Put (octets_of (in_order f i)) o p → Put (octets_of (f i)) p q → Put (octets_of (in_order f (i + 1))) o q
   order-more i d e =
-      puts-same o (puts_then (octets_of (in_order f i)) (octets_of (f i)) o d e)
+      put_same (put_then (octets_of (in_order f i)) (octets_of (f i)) d e)
       (sym (octets-append (in_order f i) (f i)) ∙ ap octets_of (sym (order-step f i) ∙ ap (in_order f) (sym (add-one i))))
 
-  pub order-ends : (i n : ℕ) {p : Output} → i ≡ n → p ≡ puts (octets_of (in_order f i)) o → p ≡ puts (octets_of (in_order f n)) o
-  order-ends i n e d = puts-same o d (ap (λ (k : ℕ). octets_of (in_order f k)) e)
+  pub order-ends : (i n : ℕ) {p : Lent} → i ≡ n → Put (octets_of (in_order f i)) o p → Put (octets_of (in_order f n)) o p
+  order-ends i n e d = put_same d (ap (λ (k : ℕ). octets_of (in_order f k)) e)

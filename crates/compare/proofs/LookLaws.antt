@@ -11,6 +11,8 @@ use native.Mathlib.Omega.{arith}
 use borrow.Author.Tests.{ltb-false, le-leb, le-ltb}
 use lib.Dec.{ltb}
 use lib.ListN.{length, drop}
+use Rattle.std.specs.Prelude.{Ok, Err}
+use Rattle.refusal.specs.Refusal.{refusal_of}
 use Rattle.tally.specs.Tests.{pick, both}
 use Rattle.tally.proofs.TestsLaws.{both_true}
 use Rattle.rules.specs.Fit.{Once}
@@ -25,9 +27,7 @@ use Rattle.changes.specs.Changes.{resolved, applied}
 use Rattle.changes.specs.Account.{Accounted}
 use Rattle.changes.proofs.OrderLaws.{octets-long}
 use Rattle.changes.proofs.AccountLaws.{entries-few, accounts, one-after-another}
-use Rattle.compare.specs.Compare.{refusal_of_compared, entries_between, octets_due, refusal_on_comparing, Looked, looked, compared, Compares}
-use Rattle.compare.specs.declared.Compared.{Compared}
-use Rattle.compare.specs.declared.Compared.TheVariants.{Listed, Refused}
+use Rattle.compare.specs.Compare.{Compared, entries_between, octets_due, refusal_on_comparing, Looked, looked, compared, Compares}
 use Rattle.compare.proofs.compare.Kinds as compare-kinds
 use Rattle.compare.proofs.compare.Reads as compare
 
@@ -61,14 +61,14 @@ module _ (a b : State) (l l' : List ℕ) where
       go true false p q z = (p, ltb-false (length l) (octets_due a b) q)
 
   -- where no refusal is due, all entries are written
-  pub unrefused : refusal_on_comparing a b (length l) ≡ 0 → compared a b l ≡ looked (Listed (length (entries_between a b))) (octets_of (entries_between a b) ++ drop (octets_due a b) l)
+  pub unrefused : refusal_on_comparing a b (length l) ≡ 0 → compared a b l ≡ looked (Ok (length (entries_between a b))) (octets_of (entries_between a b) ++ drop (octets_due a b) l)
   unfolding compared
   unrefused e =
       let h = no-refusal e in
       let f = both_true (fit a) (fit b) h.0 in
       rw (f.0, f.1, le-leb (octets_due a b) (length l) h.1)
 
-  pub tells : (n : ℕ) → Compares a b l (Listed n) l' → Tells a b l l' n
+  pub tells : (n : ℕ) → Compares a b l (Ok n) l' → Tells a b l l' n
   tells n c =
       let h = no-refusal (sym c.refusal) in
       let f = both_true (fit a) (fit b) h.0 in
@@ -81,16 +81,16 @@ module _ (a b : State) (l l' : List ℕ) where
       }
     where
       counted : Compared → ℕ
-      counted (Listed m) = m
-      counted (Refused m) = 0
+      counted (Ok m) = m
+      counted (Err r) = 0
 
   -- the entries that stand in the list are those that the two tables give
-  pub listed-entries : (n : ℕ) → Compares a b l (Listed n) l' → entries_in n l' ≡ entries_between a b
+  pub listed-entries : (n : ℕ) → Compares a b l (Ok n) l' → entries_in n l' ≡ entries_between a b
   listed-entries n c =
       let t = tells n c in
       rw (t.number, t.whole) (entries-back (entries_between a b) (drop (octets_due a b) l))
 
-  pub listed-accounts : (n : ℕ) → Compares a b l (Listed n) l' → Accounted (view a) (view b) n l'
+  pub listed-accounts : (n : ℕ) → Compares a b l (Ok n) l' → Accounted (view a) (view b) n l'
   listed-accounts n c =
       let t = tells n c in
       let e = listed-entries n c in
@@ -110,7 +110,7 @@ module _ (a b : State) (l l' : List ℕ) where
   -- with room for as many entries as both tables have records, two fit tables are never refused
   pub never-short : (r : Compared) → fit a ≡ true → fit b ≡ true
       → (length (records_in (view a)) + length (records_in (view b))) + (length (records_in (view a)) + length (records_in (view b))) ≤ length l
-      → Compares a b l r l' → refusal_of_compared r ≡ 0
+      → Compares a b l r l' → refusal_of r ≡ 0
   unfolding refusal_on_comparing
   never-short r f g h c =
       c.refusal
@@ -118,13 +118,13 @@ module _ (a b : State) (l l' : List ℕ) where
 
 -- of every outcome that the contract allows
 pub code-accounts : (κs : Lfts 3) (a : Dens κs compare-kinds.ps) (r : (res_t compare-kinds.r κs).Denot) (x : AtExit (ended_of 3 compare-kinds.ps compare-kinds.r) κs)
-    → compare.Post κs a r x → (n : ℕ) → r ≡ Listed n
+    → compare.Post κs a r x → (n : ℕ) → r ≡ Ok n
     → Accounted (view (state a.0 a.1.0.now)) (view (state a.1.1.0 a.1.1.1.0.now)) n x.1.1.1.1.0.now
 code-accounts κs a r x post n e =
     listed-accounts (state a.0 a.1.0.now) (state a.1.1.0 a.1.1.1.0.now) a.1.1.1.1.0.now x.1.1.1.1.0.now n (rw e at post)
 
 -- the changes of a first look and a second, and then those of the second and a third, give the third
-pub looks-in-a-row : (a b c : State) (k l k' l' : List ℕ) (m n : ℕ) → Compares a b k (Listed m) k' → Compares b c l (Listed n) l'
+pub looks-in-a-row : (a b c : State) (k l k' l' : List ℕ) (m n : ℕ) → Compares a b k (Ok m) k' → Compares b c l (Ok n) l'
     → SameRecords
     (applied (applied (records_in (view a)) (resolved (view a) (view b) (entries_in m k'))) (resolved (view b) (view c) (entries_in n l')))
     (records_in (view c))

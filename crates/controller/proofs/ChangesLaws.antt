@@ -9,6 +9,7 @@ use mathlib.Core.Bool.{Bool, true, false}
 use mathlib.Core.List.{List, [], ◌∷◌, ◌++◌}
 use native.Mathlib.Omega.{arith}
 use lib.ListN.{length, get_or, drop}
+use Rattle.std.specs.Prelude.{Ok}
 use Rattle.octets.specs.Numbers.{pair_of, two_octets}
 use Rattle.place.specs.State.{State}
 use Rattle.fitness.specs.View.{view}
@@ -16,7 +17,6 @@ use Rattle.changes.specs.Entries.{octets_of}
 use Rattle.changes.specs.Account.{Accounted}
 use Rattle.changes.proofs.OrderLaws.{octets-long}
 use Rattle.compare.specs.Compare.{entries_between, octets_due, refusal_on_comparing, looked}
-use Rattle.compare.specs.declared.Compared.TheVariants.{Listed}
 use Rattle.compare.proofs.CompareLaws.{due-few}
 use Rattle.compare.proofs.LookLaws.{unrefused, listed-accounts}
 use Rattle.octet_table.specs.Lent.{Lent, lent}
@@ -68,7 +68,7 @@ module _ (x y : Lent) (b d l a : List ℕ) {m v : List ℕ} (h : Compares x b y 
   accounted =
       rw counted
       (listed-accounts s t l m (length (entries_between s t))
-      (record { exact = ap (looked (Listed (length (entries_between s t)))) came-back.0 ∙ sym (unrefused s t l m right.1); refusal = sym right.1 }))
+      (record { exact = ap (looked (Ok (length (entries_between s t)))) came-back.0 ∙ sym (unrefused s t l m right.1); refusal = sym right.1 }))
 
 -- of every outcome that the contract of the export allows, over the contract as the toolchain reads it from the source: whatever was lent, if 0 came back
 pub c-accounts : (κs : Lfts 12) (a : Dens κs compare-kinds.ps) (r : (res_t compare-kinds.r κs).Denot) (x : AtExit (ended_of 12 compare-kinds.ps compare-kinds.r) κs)

@@ -12,20 +12,21 @@ use native.Mathlib.Omega.{arith}
 use lib.Dec.{eqb, ltb}
 use lib.ListN.{length, take, drop, get_or, set, length-drop}
 use lib.Seq.{get_or-drop, get_or-set_other}
+use Rattle.std.specs.Prelude.{Option, Some, None, Result, Ok, Err}
 use Rattle.tally.specs.Tests.{pick}
 use Rattle.tally.specs.Counts.{one}
 use Rattle.octets.specs.Numbers.{pair_of}
 use Rattle.text.specs.Part.{part, nowhere, text_of, most_parts, empty_parts, with_part}
 use Rattle.text.specs.declared.Part.{Part}
 use Rattle.text.specs.declared.Parts.{Parts}
-use Rattle.text.specs.declared.Optional.TheVariants as optional-is
-use Rattle.walk.specs.Walk.{Placed}
-use Rattle.walk.specs.declared.Extent.{Extent}
-use Rattle.walk.specs.declared.Extent.TheVariants as extent-is
+use Rattle.refusal.specs.Refusal.{number_of}
+use Rattle.refusal.specs.declared.Refusal.{Refusal}
+use Rattle.refusal.specs.declared.Refusal.TheVariants.{NoFrame}
+use Rattle.walk.specs.Walk.{Extent, Placed}
 use Rattle.fields.specs.Field.{port_description, category, manufacturer, model_name, model_number, link, address_list, extension, system_name, system_description, capabilities, management, topics, field_of}
 use Rattle.fields.specs.declared.Field.{Field}
 use Rattle.fields.specs.declared.Field.TheVariants.{Skipped, Malformed, Says}
-use Rattle.lldpdu.specs.Extent.{octets_in, port_place, seconds_place, id_at, rest_of, extent_of}
+use Rattle.lldpdu.specs.Extent.{port_place, seconds_place, id_at, rest_of, extent_of}
 use Rattle.lldpdu.proofs.ExtentLaws.{good}
 use Rattle.lldpdu.proofs.Stable.{sized}
 use Rattle.lldpdu.proofs.Few.{Few, extent-few}
@@ -34,18 +35,17 @@ use Rattle.found.specs.declared.Mark.{Mark}
 use Rattle.found.specs.declared.Found.{Found}
 use Rattle.found.proofs.ManagementLaws.{management-means}
 use Rattle.system.specs.System.{short_at, capabilities_in}
-use Rattle.system.specs.declared.Capabilities.TheVariants as capabilities-are
+use Rattle.system.specs.declared.Capabilities.{Capabilities}
 use Rattle.system.proofs.SystemLaws.{short-inside}
-use Rattle.reading.specs.Reading.{link_at, optional_at, found_in, refused_reading, reading_at, reading_of}
+use Rattle.reading.specs.Reading.{link_at, optional_at, found_in, reading_at, reading_of}
 use Rattle.reading.specs.declared.Link.{Link}
-use Rattle.reading.specs.declared.Link.TheVariants as link-is
 use Rattle.reading.specs.declared.Reading.{Reading}
 use Rattle.reading.proofs.MeaningLaws.{LinkFits, reading-link-fits, rest_in, marks-inside}
 use Rattle.reader.specs.Frame.{frame_ok, on_frame}
 use Rattle.reader.proofs.FrameLaws.{frame-size}
 use Rattle.octet_description.specs.Octets.{description_octets, description_in}
 use Rattle.octet_description.proofs.OctetsLaws.{SmallPart, SmallOptional, SmallLink, SmallFlags, SmallParts, Small, octets-back}
-use Rattle.octet_answers.specs.Answers.{Back, back, read_right, on_extent, verdict_octets, read_answer}
+use Rattle.octet_answers.specs.Answers.{Back, back, read_right, on_reading, verdict_octets, read_answer}
 use Rattle.exports.specs.Calls.{frame_reading, looked_at}
 use Rattle.exports.proofs.tambolune_read.Kinds as read-kinds
 use Rattle.exports.proofs.tambolune_read.Reads as read
@@ -80,15 +80,15 @@ module _ (n : ℕ) (most : n ≤ 65535) where
   small-part : (p : Part) → p.start + p.len ≤ n → SmallPart p
   small-part p h = record { start = omega arith; len = omega arith }
 
-  small-link : (l : Link) → LinkFits n l → SmallLink l
-  small-link link-is.Absent h = tt
-  small-link (link-is.Table i p a) h = (small-part i h.0, (small-part p h.1.0, small-part a h.1.1))
+  small-link : (l : Option Link) → LinkFits n l → SmallLink l
+  small-link None h = tt
+  small-link (Some l) h = (small-part l.interface h.0, (small-part l.port h.1.0, small-part l.addresses h.1.1))
 
   small-optional : (m : Mark) → m.start + m.len ≤ n → SmallOptional (optional_at m)
   unfolding optional_at
   small-optional m h = go (eqb m.times 0)
     where
-      go : (b : Bool) → SmallOptional (pick b optional-is.Absent (optional-is.Present (part_at m)))
+      go : (b : Bool) → SmallOptional (pick b None (Some (part_at m)))
       go true = tt
       go false = small-part (part_at m) h
 
@@ -96,7 +96,10 @@ small-flags : (b : List ℕ) → Octets b → SmallFlags (capabilities_in b)
 unfolding capabilities_in
 small-flags b o = go (eqb (length b) 4)
   where
-    go : (t : Bool) → SmallFlags (pick t (capabilities-are.Flags (pair_of (get_or b 0 0) (get_or b 1 0)) (pair_of (get_or b 2 0) (get_or b 3 0))) capabilities-are.Absent)
+    flags : Capabilities
+    flags = record { able = pair_of (get_or b 0 0) (get_or b 1 0); enabled = pair_of (get_or b 2 0) (get_or b 3 0) }
+
+    go : (t : Bool) → SmallFlags (pick t (Some flags) None)
     go true = (small-pair (get_or b 0 0) (get_or b 1 0) (o 0) (o 1), small-pair (get_or b 2 0) (get_or b 3 0) (o 2) (o 3))
     go false = tt
 
@@ -143,34 +146,9 @@ bare-gathered f (p ∷ ps) b =
 
 -- Every reading is small
 
-small-nowhere : SmallPart nowhere
-small-nowhere = record { start = omega arith; len = omega arith }
-
-small-refused : (n : ℕ) → Small (refused_reading n).description
-small-refused n =
-    record {
-      chassis = small-nowhere;
-      port = small-nowhere;
-      seconds = omega arith;
-      words = small-nowhere;
-      category = small-nowhere;
-      manufacturer = small-nowhere;
-      model = small-nowhere;
-      number = small-nowhere;
-      link = tt;
-      extension = tt;
-      list = tt;
-      name = small-nowhere;
-      description = small-nowhere;
-      capabilities = tt;
-      management =
-          record {
-            room = refl;
-            few = omega arith;
-            rest = bare-none;
-            each = λ k. rw (bare-none k (omega arith)) small-nowhere;
-          };
-    }
+abbrev pub SmallReading : Result Reading Refusal → Type 0
+SmallReading (Err r) = Unit {0}
+SmallReading (Ok q) = Small q.description
 
 module _ (s : List ℕ) (o : Octets s) (most : length s ≤ 65535) where
   small-management : SmallParts (found_in s).management
@@ -183,9 +161,9 @@ module _ (s : List ℕ) (o : Octets s) (most : length s ≤ 65535) where
         each = λ k. small-part (length s) most (get_or (found_in s).management.parts k nowhere) (m.inside k);
       }
 
-  small_at : (x : Extent) → extent_of s ≡ x → Small (reading_at x s).description
-  small_at (extent-is.Refused n) v = small-refused n
-  small_at (extent-is.Octets e) v =
+  small_at : (x : Extent) → extent_of s ≡ x → SmallReading (reading_at x s)
+  small_at (Err r) v = tt
+  small_at (Ok e) v =
       let z = sized (good s e v) in
       let mark : ℕ → Mark = λ t. mark_of t (found_in s) in
       let at : (t : ℕ) → t < topics → SmallPart (part_at (mark t)) = λ t h. small-part (length s) most (part_at (mark t)) (marks-inside s t h) in
@@ -210,63 +188,68 @@ module _ (s : List ℕ) (o : Octets s) (most : length s ≤ 65535) where
         management = small-management;
       }
 
-  pub small-reading : Small (reading_of s).description
+  pub small-reading : SmallReading (reading_of s)
   unfolding reading_of
   small-reading = small_at (extent_of s) refl
 
 -- of a frame: one that is not refused with 3 has at most 1,514 octets
-small-frame : (f : List ℕ) → Octets f → Small (frame_reading f).description
+small-frame : (f : List ℕ) → Octets f → SmallReading (frame_reading f)
 unfolding on_frame
 small-frame f o = go (frame_ok f) refl
   where
-    go : (b : Bool) → frame_ok f ≡ b → Small (pick b (reading_of (drop 14 f)) (refused_reading 3)).description
+    go : (b : Bool) → frame_ok f ≡ b → SmallReading (pick b (reading_of (drop 14 f)) (Err NoFrame))
     go true e = small-reading (drop 14 f) (rest-octets 14 f o) (omega (arith, (frame-size f e).1, length-drop 14 f))
-    go false e = small-refused 3
+    go false e = tt
 
 -- For a caller in C. A refusal has a number above 0, so 0 says that the octets were written; and a length fits in two octets
 
-abbrev Numbered : Extent → Type 0
-Numbered (extent-is.Refused n) = 1 ≤ n
-Numbered (extent-is.Octets e) = e < 65536
+abbrev Numbered : Result Reading Refusal → Type 0
+Numbered (Err r) = 1 ≤ number_of r
+Numbered (Ok q) = q.octets < 65536
 
-numbered-reading : (s : List ℕ) → length s ≤ 65535 → Numbered (reading_of s).extent
+numbered-reading : (s : List ℕ) → length s ≤ 65535 → Numbered (reading_of s)
 unfolding reading_of
 numbered-reading s b = go (extent_of s) refl (extent-few s)
   where
-    go : (x : Extent) → extent_of s ≡ x → Few x → Numbered (reading_at x s).extent
-    go (extent-is.Refused n) v h = omega (arith, h.0)
-    go (extent-is.Octets e) v h = omega (arith, b, (sized (good s e v)).whole-inside)
+    go : (x : Extent) → extent_of s ≡ x → Few x → Numbered (reading_at x s)
+    go (Err r) v h = omega (arith, h.0)
+    go (Ok e) v h = omega (arith, b, (sized (good s e v)).whole-inside)
 
-numbered-frame : (f : List ℕ) → Numbered (frame_reading f).extent
+numbered-frame : (f : List ℕ) → Numbered (frame_reading f)
 unfolding on_frame
 numbered-frame f = go (frame_ok f) refl
   where
-    go : (b : Bool) → frame_ok f ≡ b → Numbered (pick b (reading_of (drop 14 f)) (refused_reading 3)).extent
+    go : (b : Bool) → frame_ok f ≡ b → Numbered (pick b (reading_of (drop 14 f)) (Err NoFrame))
     go true e = numbered-reading (drop 14 f) (omega (arith, (frame-size f e).1, length-drop 14 f))
     go false e = omega arith
 
--- the answer a and the octets d of a description say what the reading q says
-pub record Crossed (q : Reading) (a d : List ℕ) : Type 0 where
-  pub description : description_in d ≡ q.description
-  pub octets : pair_of (get_or a 0 0) (get_or a 1 0) ≡ octets_in q.extent
-  pub htip : get_or a 2 0 ≡ one q.htip
+-- x was read, and the answer a and the octets d of a description say what it says
+pub record Crossed (x : Result Reading Refusal) (a d : List ℕ) : Type 0 where
+  pub reading : Reading
+  pub is : x ≡ Ok reading
+  pub description : description_in d ≡ reading.description
+  pub octets : pair_of (get_or a 0 0) (get_or a 1 0) ≡ reading.octets
+  pub htip : get_or a 2 0 ≡ one reading.htip
 
--- a reading q was answered, into an answer and a description of the right lengths
-module _ (q : Reading) (many : Numbered q.extent) (small : Small q.description) (a d : List ℕ) (right : read_right a d ≡ true)
+-- what was read was answered, into an answer and a description of the right lengths
+module _ (q : Result Reading Refusal) (many : Numbered q) (small : SmallReading q) (a d : List ℕ) (right : read_right a d ≡ true)
     (r : ℕ) (a' d' : List ℕ) (exact : back r (a' ∷ d' ∷ []) ≡ read_answer q a d) (zero_is : r ≡ 0) where
   crossed : Crossed q a' d'
   unfolding read_answer
-  crossed = go q.extent refl many (rw right at exact)
+  crossed = go q refl many small (rw right at exact)
     where
-      go : (x : Extent) → q.extent ≡ x → Numbered x → back r (a' ∷ d' ∷ []) ≡ on_extent x (a ∷ d ∷ []) (λ e. verdict_octets e q ∷ description_octets q.description ∷ [])
+      go : (x : Result Reading Refusal) → q ≡ x → Numbered x → SmallReading x
+          → back r (a' ∷ d' ∷ []) ≡ on_reading x (a ∷ d ∷ []) (λ y. verdict_octets y ∷ description_octets y.description ∷ [])
           → Crossed q a' d'
-      go (extent-is.Refused n) v h e = absurd (omega (arith, ap (λ (b : Back). b.returned) e))
-      go (extent-is.Octets n) v h e =
+      go (Err n) v h m e = absurd (omega (arith, ap (λ (b : Back). b.returned) e))
+      go (Ok y) v h m e =
           let answer = ap (λ (b : Back). get_or b.slices 0 []) e in
-          let number : pair_of (n / 256 % 256) (n % 256) ≡ n = omega arith in
+          let number : pair_of (y.octets / 256 % 256) (y.octets % 256) ≡ y.octets = omega arith in
           record {
-            description = ap description_in (ap (λ (b : Back). get_or b.slices 1 []) e) ∙ octets-back q.description small;
-            octets = ap (λ (l : List ℕ). pair_of (get_or l 0 0) (get_or l 1 0)) answer ∙ number ∙ sym (ap octets_in v);
+            reading = y;
+            is = v;
+            description = ap description_in (ap (λ (b : Back). get_or b.slices 1 []) e) ∙ octets-back y.description m;
+            octets = ap (λ (l : List ℕ). pair_of (get_or l 0 0) (get_or l 1 0)) answer ∙ number;
             htip = ap (λ (l : List ℕ). get_or l 2 0) answer;
           }
 

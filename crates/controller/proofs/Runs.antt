@@ -1,6 +1,7 @@
 -- Demand 3 for a caller in C: it holds of every run that the contracts of the exports allow, from a start on.
 -- The contracts are the toolchain's own reading of the source (`Post`); each call is a call of history/specs/Calls.antt, and nothing is proved again.
-use Prim.Native.Nat.{ℕ, zero, suc, ◌-◌, ◌≤◌}
+use Prim.{tt}
+use Prim.Native.Nat.{ℕ, ◌≤◌}
 use borrow.Fn.Kinds.{Dens, res_t, ended_of}
 use contract.Lifetimes.{Lfts}
 use denote.Triple.Clauses.{AtExit}
@@ -12,29 +13,25 @@ use native.Mathlib.Omega.{arith}
 use borrow.Author.Tests.{eq-eqb}
 use lib.Dec.{ltb}
 use lib.ListN.{length, get_or, replicate}
+use Rattle.std.specs.Prelude.{Option, Some, None, Result, Ok, Err}
 use Rattle.tally.specs.Tests.{pick}
+use Rattle.refusal.specs.Refusal.{refusal_of}
+use Rattle.refusal.specs.declared.Refusal.{Refusal}
+use Rattle.refusal.specs.declared.Refusal.TheVariants.{NoPort}
 use Rattle.naming.specs.declared.Number.{Number}
-use Rattle.naming.specs.declared.Naming.{Naming}
-use Rattle.naming.specs.declared.Naming.TheVariants as naming-is
 use Rattle.rules.specs.Events as event
 use Rattle.rules.specs.Events.{History}
-use Rattle.rules.specs.Answers.{refusal_of_reply}
-use Rattle.rules.specs.declared.Reply.{Reply}
+use Rattle.rules.specs.Answers.{Answered}
 use Rattle.rules.specs.Model.{Places}
 use Rattle.rules.specs.Records.{records_in, SameRecords}
 use Rattle.rules.specs.EitherOrder.{OtherOrder}
-use Rattle.numbers.specs.Sizes.{ports, places}
-use Rattle.place.specs.State.{State, octets, at}
+use Rattle.numbers.specs.Sizes.{ports}
+use Rattle.place.specs.State.{State, octets}
 use Rattle.fitness.specs.View.{view}
-use Rattle.freeing.specs.Calls.{refusal_of_answer, refusal_at_start}
-use Rattle.freeing.specs.declared.Answer.TheVariants.{Done, Refused}
+use Rattle.freeing.specs.Calls.{Answer, refusal_at_start}
 use Rattle.hearing.specs.Frame.{heard_of}
-use Rattle.questions.specs.Sight.{refusal_of_count, refusal_of_sight, naming_in_place, on_naming, sight_from, sight}
-use Rattle.questions.specs.declared.Count.{Count}
-use Rattle.questions.specs.declared.Count.TheVariants as count-is
+use Rattle.questions.specs.Sight.{sight}
 use Rattle.questions.specs.declared.Sight.{Sight}
-use Rattle.questions.specs.declared.Sight.TheVariants.{Nobody, At}
-use Rattle.questions.specs.declared.Sight.TheVariants as sight-is
 use Rattle.questions.proofs.LowestLaws.{sight-as-from}
 use Rattle.history.specs.Past.{held, answer}
 use Rattle.history.specs.Demand.{Demand3}
@@ -101,16 +98,16 @@ module _ {h : History} (κs : Lfts 7) (a : Dens κs frame-kinds.ps) (r : (res_t 
     (c : Ran (state_in (lent a.0.now a.1.0.now a.1.1.0.now a.1.1.1.0.now) a.1.1.1.1.0.now) h)
     (right : frame_right (lent a.0.now a.1.0.now a.1.1.0.now a.1.1.1.0.now) a.1.1.1.1.1.1.1.0.now ≡ true)
     (post : frame-on-port.Post κs a r x) where
-  abbrev said : Reply
+  abbrev said : Answered
   said = answer ports h a.1.1.1.1.1.0 (heard_of a.1.1.1.1.1.1.0.now)
 
-  pub c_frame : (r ≡ refusal_of_reply said) × (x.1.1.1.1.1.1.1.0.now ≡ reply_octets said a.1.1.1.1.1.1.1.0.now)
+  pub c_frame : (r ≡ refusal_of said) × (x.1.1.1.1.1.1.1.0.now ≡ reply_octets said a.1.1.1.1.1.1.1.0.now)
   unfolding framing
   c_frame =
       let e = rw right at post.gives.exact in
       let d = demand3-answers (ran-called c) a.1.1.1.1.1.0 a.1.1.1.1.1.1.0.now in (
-        ap (λ (b : Back). b.returned) e ∙ ap refusal_of_reply d,
-        ap (λ (b : Back). get_or b.slices 5 []) e ∙ ap (λ (y : Reply). reply_octets y a.1.1.1.1.1.1.1.0.now) d,
+        ap (λ (b : Back). b.returned) e ∙ ap (λ (y : Answered). refusal_of y) d,
+        ap (λ (b : Back). get_or b.slices 5 []) e ∙ ap (λ (y : Answered). reply_octets y a.1.1.1.1.1.1.1.0.now) d,
       )
 
 -- of a start with a buffer of the right length: nothing is refused
@@ -124,43 +121,32 @@ pub c-passed : {h : History} (κs : Lfts 5) (a : Dens κs passed-kinds.ps) (r : 
     → Ran (state_in (lent a.0.now a.1.0.now a.1.1.0.now a.1.1.1.0.now) a.1.1.1.1.0.now) h
     → lengths_ok (lent a.0.now a.1.0.now a.1.1.0.now a.1.1.1.0.now) ≡ true → seconds-passed.Post κs a r x → r ≡ 0
 c-passed κs a r x c right post =
-    ap (λ (b : Back). b.returned) (rw right at post.gives.exact) ∙ ap refusal_of_answer (demand3-passed (ran-called c) a.1.1.1.1.1.0)
+    ap (λ (b : Back). b.returned) (rw right at post.gives.exact) ∙ ap (λ (y : Answer). refusal_of y) (demand3-passed (ran-called c) a.1.1.1.1.1.0)
 
 -- of a lost link: 2 for a port that there is not
 pub c-lost : {h : History} (κs : Lfts 5) (a : Dens κs lost-kinds.ps) (r : (res_t lost-kinds.r κs).Denot) (x : AtExit (ended_of 5 lost-kinds.ps lost-kinds.r) κs)
     → Ran (state_in (lent a.0.now a.1.0.now a.1.1.0.now a.1.1.1.0.now) a.1.1.1.1.0.now) h
     → lengths_ok (lent a.0.now a.1.0.now a.1.1.0.now a.1.1.1.0.now) ≡ true → link_lost.Post κs a r x
-    → r ≡ refusal_of_answer (pick (ltb a.1.1.1.1.1.0 ports) Done (Refused 2))
+    → r ≡ refusal_of {A = Unit {0}} (pick (ltb a.1.1.1.1.1.0 ports) (Ok tt) (Err NoPort))
 c-lost κs a r x c right post =
-    ap (λ (b : Back). b.returned) (rw right at post.gives.exact) ∙ ap refusal_of_answer (demand3-lost (ran-called c) a.1.1.1.1.1.0)
+    ap (λ (b : Back). b.returned) (rw right at post.gives.exact) ∙ ap (λ (y : Answer). refusal_of y) (demand3-lost (ran-called c) a.1.1.1.1.1.0)
 
 -- of how many a port holds: as many as the history gives it
 module _ {h : History} (κs : Lfts 6) (a : Dens κs many-kinds.ps) (r : (res_t many-kinds.r κs).Denot) (x : AtExit (ended_of 6 many-kinds.ps many-kinds.r) κs)
     (c : Ran (state_in (lent a.0.now a.1.0.now a.1.1.0.now a.1.1.1.0.now) a.1.1.1.1.0.now) h)
     (right : count_right (lent a.0.now a.1.0.now a.1.1.0.now a.1.1.1.0.now) a.1.1.1.1.1.1.0.now ≡ true)
     (post : how_many.Post κs a r x) where
-  abbrev holds : Count
-  holds = pick (ltb a.1.1.1.1.1.0 ports) (count-is.Holds (held ports h a.1.1.1.1.1.0)) (count-is.Refused 2)
+  abbrev holds : Result ℕ Refusal
+  holds = pick (ltb a.1.1.1.1.1.0 ports) (Ok (held ports h a.1.1.1.1.1.0)) (Err NoPort)
 
-  pub c-holds : (r ≡ refusal_of_count holds) × (x.1.1.1.1.1.1.0.now ≡ count_octets holds a.1.1.1.1.1.1.0.now)
+  pub c-holds : (r ≡ refusal_of holds) × (x.1.1.1.1.1.1.0.now ≡ count_octets holds a.1.1.1.1.1.1.0.now)
   unfolding counting
   c-holds =
       let e = rw right at post.exact in
       let d = demand3-holds (ran-called c) a.1.1.1.1.1.0 in (
-        ap (λ (b : Back). b.returned) e ∙ ap refusal_of_count d,
-        ap (λ (b : Back). get_or b.slices 0 []) e ∙ ap (λ (y : Count). count_octets y a.1.1.1.1.1.1.0.now) d,
+        ap (λ (b : Back). b.returned) e ∙ ap refusal_of d,
+        ap (λ (b : Back). get_or b.slices 0 []) e ∙ ap (λ (y : Result ℕ Refusal). count_octets y a.1.1.1.1.1.1.0.now) d,
       )
-
--- on a fit table no question is refused
-unrefused : (s : State) (w : List ℕ) (n m k : ℕ) → ¬ (sight_from s w k m ≡ sight-is.Refused n)
-unfolding sight_from
-unrefused s w n zero k e = absurd (let z : ◌≡◌ {A = ℕ} 0 1 = cc in omega arith)
-unrefused s w n (suc m) k e = go (naming_in_place w (at s k)) e (unrefused s w n m (suc k))
-  where
-    go : (x : Naming) → on_naming x k (sight_from s w (suc k) m) ≡ sight-is.Refused n → ¬ (sight_from s w (suc k) m ≡ sight-is.Refused n) → ⊥
-    go (naming-is.Refused j) e f = f e
-    go naming-is.Nowhere e f = f e
-    go (naming-is.Link i p) e f = absurd (let z : ◌≡◌ {A = ℕ} 0 1 = cc in omega arith)
 
 -- of who sees an address: the lowest place of a neighbour that names it, or nobody where there is none
 module _ {h : History} (κs : Lfts 7) (a : Dens κs sees-kinds.ps) (r : (res_t sees-kinds.r κs).Denot) (x : AtExit (ended_of 7 sees-kinds.ps sees-kinds.r) κs)
@@ -179,27 +165,27 @@ module _ {h : History} (κs : Lfts 7) (a : Dens κs sees-kinds.ps) (r : (res_t s
   abbrev table : Places
   table = view state
 
-  seen-is : (v : Sight) → sight address from state ≡ v
-      → (r ≡ refusal_of_sight v) × (x.1.1.1.1.1.1.1.0.now ≡ sight_octets v a.1.1.1.1.1.1.1.0.now)
+  seen-is : (v : Result (Option Sight) Refusal) → sight address from state ≡ v
+      → (r ≡ refusal_of v) × (x.1.1.1.1.1.1.1.0.now ≡ sight_octets v a.1.1.1.1.1.1.1.0.now)
   unfolding seeing
   seen-is v d =
       let e = rw right at post.exact in (
-        ap (λ (b : Back). b.returned) e ∙ ap refusal_of_sight d,
-        ap (λ (b : Back). get_or b.slices 0 []) e ∙ ap (λ (y : Sight). sight_octets y a.1.1.1.1.1.1.1.0.now) d,
+        ap (λ (b : Back). b.returned) e ∙ ap refusal_of d,
+        ap (λ (b : Back). get_or b.slices 0 []) e ∙ ap (λ (y : Result (Option Sight) Refusal). sight_octets y a.1.1.1.1.1.1.1.0.now) d,
       )
 
   pub c-sees : (k : ℕ) (i p : Number) → Lowest h table address from k (i, p) → (r ≡ 0) × (x.1.1.1.1.1.1.1.0.now ≡ place_octets k i p)
-  c-sees k i p l = seen-is (At k i p) ((demand3-sees (ran-called c) address from k i p).1 l)
+  c-sees k i p l = seen-is (Ok (Some (record { place = k; interface = i; port = p }))) ((demand3-sees (ran-called c) address from k i p).1 l)
 
   pub c-unseen : ((k : ℕ) (y : Number × Number) → from ≤ k → ¬ NeighbourNames h table address k y) → (r ≡ 0) × (x.1.1.1.1.1.1.1.0.now ≡ replicate sight_long 0)
-  c-unseen f = seen-is Nobody ((demand3-unseen (ran-called c) address from).1 f)
+  c-unseen f = seen-is (Ok None) ((demand3-unseen (ran-called c) address from).1 f)
 
   -- one of the two is always so
   pub c-sees-which : ((k : ℕ) × (i : Number) × (p : Number) × Lowest h table address from k (i, p)) ⊎ ((k : ℕ) (y : Number × Number) → from ≤ k → ¬ NeighbourNames h table address k y)
   c-sees-which = go (sight address from state) refl
     where
-      go : (v : Sight) → sight address from state ≡ v
+      go : (v : Result (Option Sight) Refusal) → sight address from state ≡ v
           → ((k : ℕ) × (i : Number) × (p : Number) × Lowest h table address from k (i, p)) ⊎ ((k : ℕ) (y : Number × Number) → from ≤ k → ¬ NeighbourNames h table address k y)
-      go (At k i p) e = inl (k, i, p, (demand3-sees (ran-called c) address from k i p).0 e)
-      go Nobody e = inr ((demand3-unseen (ran-called c) address from).0 e)
-      go (sight-is.Refused n) e = absurd (unrefused state address n (places - from) from (sym (sight-as-from state (always-fit (ran-called c)) address from) ∙ e))
+      go (Ok (Some v)) e = inl (v.place, v.interface, v.port, (demand3-sees (ran-called c) address from v.place v.interface v.port).0 e)
+      go (Ok None) e = inr ((demand3-unseen (ran-called c) address from).0 e)
+      go (Err r) e = let u = sym (sight-as-from state (always-fit (ran-called c)) address from) ∙ e in absurd (let z : ◌≡◌ {A = ℕ} 0 1 = cc in omega arith)

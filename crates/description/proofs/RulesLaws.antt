@@ -1,12 +1,11 @@
 -- Laws of the rules: what a description that keeps them has, and the tests as the code makes them.
 -- `kept` takes the rules apart once; everything else cites its fields.
-use Prim.Native.Nat.{ℕ, ◌+◌, ◌-◌, ◌%◌, ◌≤◌}
-use mathlib.Core.Path.{◌≡◌, refl, sym, ap, ◌∙◌}
+use Prim.Native.Nat.{ℕ, ◌+◌, ◌%◌, ◌≤◌}
+use mathlib.Core.Path.{◌≡◌, ap, ◌∙◌}
 use mathlib.Core.List.{List, [], ◌∷◌}
-use mathlib.Core.Bool.{Bool, true, false, not}
+use mathlib.Core.Bool.{Bool, true}
 use mathlib.Core.Option.{none}
-use native.Mathlib.Omega.{arith}
-use borrow.Author.Tests.{leb-true, leb-false, eqb-true, le-leb, lt-leb}
+use borrow.Author.Tests.{leb-true, eqb-true}
 use lib.ListN.{length}
 use lib.Dec.{leb, eqb}
 use Rattle.tally.specs.Tests.{pick, all, is_none}
@@ -14,19 +13,9 @@ use Rattle.tally.proofs.TestsLaws.{both_true, held}
 use Rattle.strings.specs.Text.{text_ok}
 use Rattle.ids.specs.Id.{chassis_ok, port_ok}
 use Rattle.extension.specs.Layout.{extension_ok}
-use Rattle.fields.specs.Field.{description_of, field_of}
-use Rattle.fields.specs.declared.Field.TheVariants.{Skipped, Malformed, Says}
-use Rattle.text.specs.Part.{text_of, optional_text, most_parts}
-use Rattle.text.specs.declared.Part.{Part}
+use Rattle.text.specs.Part.{most_parts}
 use Rattle.system.specs.System.{SystemInfo, unsaid, management_sound, system_rules, absent_rules}
-use Rattle.reading.specs.Reading.{link_parts}
-use Rattle.reading.specs.Meaning.{Said, link_meant}
-use Rattle.reading.proofs.MeaningLaws.{parts-absent, parts-there}
-use Rattle.reading.specs.declared.Link.{Link}
-use Rattle.reading.specs.declared.Link.TheVariants as link-is
-use Rattle.reading.specs.declared.LinkParts.{LinkParts}
-use Rattle.text.specs.declared.Optional.{Optional}
-use Rattle.text.specs.declared.Optional.TheVariants as optional-is
+use Rattle.reading.specs.Meaning.{Said}
 use Rattle.description.specs.Rules.{words_sound, string_rules, table_rules, table_sound, link_sound, content_sound, extension_sound, listed_sound, list_sound, goodbye_rules, live_rules, rules, sound_of}
 
 -- what is said by a description that keeps the rules
@@ -104,27 +93,6 @@ listed a e =
     let h = both_true (eqb (a % 6) 0) (leb (5 + a) 511) e in
     record { whole = eqb-true (a % 6) 0 h.0; short = leb-true (5 + a) 511 h.1 }
 
--- whether link information or octets are there does not depend on the text
-pub no-link-same : (s : List ℕ) (l : Link) → is_none (link_meant [] l) ≡ is_none (link_meant s l)
-no-link-same s link-is.Absent = refl
-no-link-same s (link-is.Table i p a) = refl
-
-pub no-link-there : (l : Link) {t : LinkParts} → t ≡ link_parts l → not t.there ≡ is_none (link_meant [] l)
-no-link-there link-is.Absent e = ap (λ (x : LinkParts). not x.there) e
-no-link-there (link-is.Table i p a) e = ap (λ (x : LinkParts). not x.there) e
-
-pub no-octets-same : (s : List ℕ) (l : Optional) → is_none (optional_text [] l) ≡ is_none (optional_text s l)
-no-octets-same s optional-is.Absent = refl
-no-octets-same s (optional-is.Present a) = refl
-
--- 511 is the most that L can be, whichever side of the comparison the sum stands on
-pub most-table : (n m a : ℕ) → n ≤ 4 → m ≤ 4 → leb a (504 - n - m) ≡ leb (7 + n + m + a) 511
-most-table n m a h k = go (leb (7 + n + m + a) 511) refl
-  where
-    go : (b : Bool) → leb (7 + n + m + a) 511 ≡ b → leb a (504 - n - m) ≡ b
-    go true e = le-leb a (504 - n - m) (omega (arith, leb-true (7 + n + m + a) 511 e))
-    go false e = lt-leb a (504 - n - m) (omega (arith, leb-false (7 + n + m + a) 511 e))
-
 pub record Content (c : List ℕ) : Type 0 where
   pub short : 4 + length c ≤ 511
   pub formed : extension_ok c ≡ true
@@ -133,54 +101,6 @@ pub content : (c : List ℕ) → content_sound c ≡ true → Content c
 content c e =
     let h = both_true (leb (4 + length c) 511) (extension_ok c) e in
     record { short = leb-true (4 + length c) 511 h.0; formed = h.1 }
-
-pub most-listed : (a : ℕ) → leb a 506 ≡ leb (5 + a) 511
-most-listed a = go (leb (5 + a) 511) refl
-  where
-    go : (b : Bool) → leb (5 + a) 511 ≡ b → leb a 506 ≡ b
-    go true e = le-leb a 506 (omega (arith, leb-true (5 + a) 511 e))
-    go false e = lt-leb a 506 (omega (arith, leb-false (5 + a) 511 e))
-
--- a port description is judged as the reader judges a TLV of type 4
-module _ (b : List ℕ) where
-  pub formed-words : {topic skip : ℕ} → field_of 4 b ≡ Says topic skip → true ≡ words_sound b
-  unfolding field_of description_of
-  formed-words {topic} {skip} e = go (words_sound b) e
-    where
-      go : (t : Bool) → pick t (Says 0 0) Malformed ≡ Says topic skip → true ≡ t
-      go true q = refl
-      go false q = let z : ◌≡◌ {A = ℕ} 0 1 = cc in absurd (omega arith)
-
-  pub malformed-words : field_of 4 b ≡ Malformed → false ≡ words_sound b
-  unfolding field_of description_of
-  malformed-words e = go (words_sound b) e
-    where
-      go : (t : Bool) → pick t (Says 0 0) Malformed ≡ Malformed → false ≡ t
-      go true q = let z : ◌≡◌ {A = ℕ} 0 1 = cc in absurd (omega arith)
-      go false q = refl
-
-  pub skipped-words : field_of 4 b ≡ Skipped → false ≡ words_sound b
-  unfolding field_of description_of
-  skipped-words e = go (words_sound b) e
-    where
-      go : (t : Bool) → pick t (Says 0 0) Malformed ≡ Skipped → false ≡ t
-      go true q = let z : ◌≡◌ {A = ℕ} 0 1 = cc in absurd (omega arith)
-      go false q = refl
-
--- link information and an address list are judged by the counts that the code has read
-module _ (s : List ℕ) (l : Link) {t : LinkParts} (e : t ≡ link_parts l) where
-  pub absent-sound : t.there ≡ false → true ≡ link_sound (link_meant s l)
-  absent-sound h = sym (ap link_sound (parts-absent s l e h))
-
-  pub table-sound : t.there ≡ true → {n m k : ℕ} → n ≡ length (text_of s t.interface) → m ≡ length (text_of s t.port) → k ≡ length (text_of s t.addresses)
-      → link_sound (link_meant s l) ≡ table_sound n m k
-  table-sound h x y z = ap link_sound (parts-there s l e h) ∙ rw (x, y, z)
-
-pub content-sound : (s : List ℕ) {o : Optional} {p : Part} → o ≡ optional-is.Present p → {c : List ℕ} → c ≡ text_of s p → extension_sound (optional_text s o) ≡ content_sound c
-content-sound s e z = rw (e, z)
-
-pub listed-sound : (s : List ℕ) {l : Optional} {a : Part} → l ≡ optional-is.Present a → {k : ℕ} → k ≡ length (text_of s a) → list_sound (optional_text s l) ≡ listed_sound k
-listed-sound s e z = rw (e, z)
 
 -- what a goodbye had to leave out before there was extension link information, with more behind it
 abbrev pub bare_rules : Said → List Bool → List Bool

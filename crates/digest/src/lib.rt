@@ -5,69 +5,39 @@
 ghost use Rattle.std.specs.Prelude.{◌≡◌};
 ghost use Rattle.digest.specs.Digest.{mixed, mixed_all, mixed_senders, digest_of};
 
-use numbers::{PLACES, Sender, Table};
+use numbers::{Sender, Table};
 
 // One value more. The modulus is the greatest prime number of 32 bits.
 fn mixed(h: u32, value: u16) -> u32
     ensures { result ≡ mixed h value }
 {
-    ((h as u64 * 31 + value as u64 + 1) % 4294967291) as u32
-}
-
-fn wide(b: u8) -> u16
-    ensures { result ≡ b }
-{
-    b as u16
+    ((u64::from(h) * 31 + u64::from(value) + 1) % 4294967291) as u32
 }
 
 fn mixed_octets(h: u32, s: &[u8]) -> u32
     ensures { result ≡ mixed_all h s.now }
 {
-    let mut mix = h;
-    for i in 0..s.len() {
-        mix = mixed(mix, wide(s[i]));
-    }
-    mix
+    s.iter().fold(h, |mix, &octet| mixed(mix, u16::from(octet)))
 }
 
 fn mixed_numbers(h: u32, s: &[u16]) -> u32
     ensures { result ≡ mixed_all h s.now }
 {
-    let mut mix = h;
-    for i in 0..s.len() {
-        mix = mixed(mix, s[i]);
-    }
-    mix
+    s.iter().fold(h, |mix, &number| mixed(mix, number))
 }
 
-// A call of its own, so that the number of octets is known.
-fn mixed_sender(h: u32, s: [u8; 6]) -> u32
-    ensures { result ≡ mixed_all h s }
+fn mixed_senders(h: u32, s: &[Sender]) -> u32
+    ensures { result ≡ mixed_senders h s.now }
 {
-    mixed_octets(h, &s)
-}
-
-fn mixed_senders(h: u32, s: [Sender; PLACES]) -> u32
-    ensures { result ≡ mixed_senders h s }
-{
-    let mut mix = h;
-    for i in 0..PLACES {
-        let sender = s[i];
-        let octets = sender.octets;
-        mix = mixed_sender(mix, octets);
-    }
-    mix
+    s.iter()
+        .fold(h, |mix, sender| mixed_octets(mix, &sender.octets))
 }
 
 pub fn digest_of(t: Table, buffer: &[u8]) -> u32
     ensures { result ≡ digest_of t buffer.now }
 {
-    let port = t.port;
-    let seconds = t.seconds;
-    let length = t.length;
-    let sender = t.sender;
-    let ports = mixed_octets(0, &port);
-    let numbers = mixed_numbers(mixed_numbers(ports, &seconds), &length);
-    let senders = mixed_senders(numbers, sender);
+    let ports = mixed_octets(0, &t.port);
+    let numbers = mixed_numbers(mixed_numbers(ports, &t.seconds), &t.length);
+    let senders = mixed_senders(numbers, &t.sender);
     mixed_octets(senders, buffer)
 }

@@ -1,8 +1,6 @@
 // The six calls, and the lines of their answers.
 // A line has the number of the record, the answers, and the digest of what the calls left.
-use crate::print::{
-    CALL, END, SPOILED, say, say_answer, say_count, say_digest, say_reply, say_sight,
-};
+use crate::print::{Form, say, say_answer, say_count, say_digest, say_reply, say_sight};
 use crate::record::Record;
 use std::io;
 use table::{
@@ -10,14 +8,12 @@ use table::{
 };
 
 fn done(rt: &impl Print, o: Outcome) -> io::Result<Table> {
-    let answer = o.answer;
-    say_answer(rt, answer)?;
+    say_answer(rt, o.answer)?;
     Ok(o.table)
 }
 
 fn heard(rt: &impl Print, o: Reception) -> io::Result<Table> {
-    let reply = o.reply;
-    say_reply(rt, reply)?;
+    say_reply(rt, o.reply)?;
     Ok(o.table)
 }
 
@@ -30,7 +26,6 @@ fn call(
     buffer: &mut [u8],
     frame: &[u8],
 ) -> io::Result<Table> {
-    let address = r.address;
     match kind {
         0 => done(rt, start(t, buffer)),
         1 => heard(rt, frame_on_port(t, buffer, r.number, frame)),
@@ -41,7 +36,7 @@ fn call(
             Ok(t)
         }
         _ => {
-            say_sight(rt, who_sees(t, buffer, address, r.number))?;
+            say_sight(rt, who_sees(t, buffer, r.address, r.number))?;
             Ok(t)
         }
     }
@@ -73,7 +68,7 @@ fn call_one(
 ) -> io::Result<Table> {
     let u = call(rt, kind, r, t, buffer, frame)?;
     say_digest(rt, u, buffer)?;
-    say(rt, END, 0)?;
+    say(rt, Form::End, &[])?;
     Ok(u)
 }
 
@@ -87,10 +82,10 @@ pub(crate) fn answer(
     frame: &[u8],
 ) -> io::Result<Table> {
     if r.kind < 6 {
-        say(rt, CALL, case)?;
+        say(rt, Form::Call, &[case])?;
         return call_one(rt, r.kind, r, t, buffer, frame);
     }
-    say(rt, SPOILED, case)?;
+    say(rt, Form::Spoiled, &[case])?;
     let five = call_five(rt, r, t, buffer, frame)?;
     call_one(rt, 0, r, five, buffer, frame)
 }

@@ -19,7 +19,7 @@ use Rattle.numbers.specs.Sizes.{places}
 use Rattle.place.specs.State.{Place, State, at, put, each, change_at}
 use Rattle.freeing.specs.Changes.{aged, changed}
 use Rattle.freeing.specs.Calls.{answered, if_fit, passed}
-use Rattle.freeing.specs.declared.Answer.TheVariants.{Done}
+use Rattle.std.specs.Prelude.{Ok}
 use Rattle.octet_table.specs.Lent.{Lent, table_in}
 use Rattle.exports.specs.Calls.{capped_of}
 
@@ -74,7 +74,7 @@ module _ (n : ℕ) where
 
   pub capped-passed : (s : State) → Small s.table.seconds → passed (capped_of n) s ≡ passed n s
   unfolding passed
-  capped-passed s h = ap (λ (u : State). if_fit s (answered Done u)) (capped-each places s h)
+  capped-passed s h = ap (λ (u : State). if_fit s (answered (Ok tt) u)) (capped-each places s h)
 
 -- a table that octets mean is such a one
 pub seconds-small : (x : Lent) → ((i : ℕ) → Fits w8 (get_or x.seconds i 0)) → Small (table_in x).seconds

@@ -14,44 +14,37 @@ use lib.Seq.{take_all}
 use lib.Dec.{eqb}
 use Rattle.tally.specs.Tests.{pick}
 use Rattle.tally.proofs.TestsLaws.{both_hold, both_end}
-use Rattle.walk.specs.declared.Extent.{Extent}
-use Rattle.walk.specs.declared.Extent.TheVariants as extent-is
+use Rattle.std.specs.Prelude.{Option, Some, None, Result, Ok, Err}
 use Rattle.octets.specs.Address.{six_at}
 use Rattle.octets.proofs.AddressLaws.{six-there}
-use Rattle.lldpdu.specs.Extent.{refusal_of_extent, extent_of}
+use Rattle.refusal.specs.Refusal.{refusal_of}
+use Rattle.refusal.specs.declared.Refusal.{Refusal}
+use Rattle.walk.specs.Walk.{Extent}
+use Rattle.lldpdu.specs.Extent.{extent_of}
 use Rattle.reading.specs.Reading.{reading_at, reading_of}
-use Rattle.reader.specs.Frame.{frame_refusal, ReadsFrame}
+use Rattle.reader.specs.Frame.{lldpdu_of, frame_refusal, ReadsFrame}
 use Rattle.reader.proofs.Refusals.{answer-rows}
-use Rattle.reading.specs.Meaning.{ReaderAnswer, Reads}
+use Rattle.reading.specs.Meaning.{ReaderAnswer, meant, Reads}
 use Rattle.reading.specs.declared.Reading.{Reading}
 use Rattle.reading.specs.declared.Description.{Description}
-use Rattle.writer.specs.Write.{refusal_of_written, write_of, Writes}
-use Rattle.writer.specs.declared.Written.{Written}
-use Rattle.writer.specs.declared.Written.TheVariants as written_is
-use Rattle.rules.specs.Answers.{refusal_of_reply}
-use Rattle.rules.specs.declared.Reply.{Reply}
-use Rattle.rules.specs.declared.Reply.TheVariants as reply-is
+use Rattle.writer.specs.Write.{Written, write_of, Writes}
+use Rattle.rules.specs.Answers.{Answered}
 use Rattle.numbers.specs.declared.Table.{Table}
 use Rattle.place.specs.State.{State, state}
-use Rattle.freeing.specs.Calls.{After, after, state_after, refusal_of_answer}
-use Rattle.freeing.specs.declared.Answer.{Answer}
-use Rattle.freeing.specs.declared.Answer.TheVariants as answer-is
+use Rattle.freeing.specs.Calls.{After, Answer, after, state_after}
 use Rattle.freeing.specs.declared.Outcome.{Outcome}
 use Rattle.hearing.specs.Frame.{Told, state_told, heard}
 use Rattle.hearing.specs.declared.Reception.{Reception}
 use Rattle.hearing.specs.Frame as hearing
 use Rattle.questions.specs.Sight as questions
-use Rattle.questions.specs.Sight.{refusal_of_count, refusal_of_sight, sight}
-use Rattle.questions.specs.declared.Count.{Count}
-use Rattle.questions.specs.declared.Count.TheVariants as count-is
+use Rattle.questions.specs.Sight.{sight}
 use Rattle.questions.specs.declared.Sight.{Sight}
-use Rattle.questions.specs.declared.Sight.TheVariants as sight-is
 use Rattle.table.proofs.RefusalLaws.{Unchanged, Untold}
 use Rattle.octet_table.specs.Lent.{Lent, lengths_ok, lent_of, Puts}
 use Rattle.octet_table.proofs.LentLaws.{again}
 use Rattle.octet_description.specs.Octets.{description_octets, description_in, presences_ok}
 use Rattle.octet_answers.specs.Answers as answers
-use Rattle.octet_answers.specs.Answers.{Back, back, if_right, written_long, count_long, sight_long, judge_right, read_right, on_extent, verdict_octets, judged_octets, judged, read_answer, written, written_octets, reply_long, reply_octets, replied, count_octets, sight_octets}
+use Rattle.octet_answers.specs.Answers.{Back, back, if_right, written_long, count_long, sight_long, judge_right, read_right, on_reading, verdict_octets, judged_octets, judged, read_answer, written, written_octets, reply_long, reply_octets, replied, count_octets, sight_octets}
 use Rattle.exports.specs.Calls.{Gives, Changes, address_long, due_if_right, write_right, on_written, writing, refusal_on_writing, state_in, table_slices, state_slices, after_call, frame_right, framing, count_right, counting, see_right, seeing}
 
 -- What is to be shown of what an export gives, once it is known to be b
@@ -70,40 +63,48 @@ module _ {right : Bool} (ss : List (List ℕ)) (b : Back) (due : ℕ) (e : right
   pub wrong-changes : (left s : State) → Changes right ss (if_right right ss b) (due_if_right right due) left s (back 1 ss)
   wrong-changes left s = record { gives = wrong-gives; means = λ z. no (sym e ∙ z) }
 
+-- the number of what was answered is what is returned
+pub numbered : {n m : ℕ} {ss : List (List ℕ)} {b : Back} → n ≡ m → back m ss ≡ b → back n ss ≡ b
+numbered {ss = ss} e h = ap (λ (k : ℕ). back k ss) e ∙ h
+
 -- A reading
 
-reading-gives : (right : Bool) (x : Extent) (ss : List (List ℕ)) (f : ℕ → List (List ℕ)) (due : ℕ) {b : Back} → b ≡ if_right right ss (on_extent x ss f) → refusal_of_extent x ≡ due
-    → Gives ss (if_right right ss (on_extent x ss f)) (due_if_right right due) b
-reading-gives true (extent-is.Refused n) ss f due e d = gives e d (λ h. refl)
-reading-gives true (extent-is.Octets n) ss f due e d = gives e d (λ h. absurd (h refl))
-reading-gives false x ss f due e d = gives e refl (λ h. refl)
+reading-gives : (right : Bool) (q : Result Reading Refusal) (ss : List (List ℕ)) (f : Reading → List (List ℕ)) (due : ℕ) {b : Back}
+    → b ≡ if_right right ss (on_reading q ss f) → refusal_of q ≡ due → Gives ss (if_right right ss (on_reading q ss f)) (due_if_right right due) b
+reading-gives true (Err r) ss f due e d = gives e d (λ h. refl)
+reading-gives true (Ok r) ss f due e d = gives e d (λ h. absurd (h refl))
+reading-gives false q ss f due e d = gives e refl (λ h. refl)
+
+meant-refusal : (s : List ℕ) (q : Result Reading Refusal) → (meant s q).refusal ≡ refusal_of q
+meant-refusal s (Err r) = refl
+meant-refusal s (Ok r) = refl
 
 -- the refusal of a reading, by the rules: of a frame row by row, of an LLDPDU by its extent
-pub frame-due : (f : List ℕ) {r : Reading} → ReadsFrame f r → refusal_of_extent r.extent ≡ frame_refusal f
-frame-due f e = ap (λ (a : ReaderAnswer). a.refusal) e.means ∙ answer-rows f
+pub frame-due : (f : List ℕ) {q : Result Reading Refusal} → ReadsFrame f q → refusal_of q ≡ frame_refusal f
+frame-due f {q} e = sym (meant-refusal (lldpdu_of f) q) ∙ ap (λ (a : ReaderAnswer). a.refusal) e.means ∙ answer-rows f
 
-pub lldpdu-due : (s : List ℕ) {r : Reading} → Reads s r → refusal_of_extent r.extent ≡ refusal_of_extent (extent_of s)
+pub lldpdu-due : (s : List ℕ) {q : Result Reading Refusal} → Reads s q → refusal_of q ≡ refusal_of (extent_of s)
 unfolding reading_of
-lldpdu-due s e = ap (λ (x : Reading). refusal_of_extent x.extent) e.exact ∙ go (extent_of s)
+lldpdu-due s e = ap (λ (x : Result Reading Refusal). refusal_of x) e.exact ∙ go (extent_of s)
   where
-    go : (x : Extent) → refusal_of_extent (reading_at x s).extent ≡ refusal_of_extent x
-    go (extent-is.Refused n) = refl
-    go (extent-is.Octets n) = refl
+    go : (x : Extent) → refusal_of (reading_at x s) ≡ refusal_of x
+    go (Err r) = refl
+    go (Ok n) = refl
 
 -- the reading r that the code has in hand is q
-module _ (r q : Reading) (same : r ≡ q) (due : ℕ) (d : refusal_of_extent r.extent ≡ due) (a : List ℕ) where
-  number : refusal_of_extent q.extent ≡ due
-  number = sym (ap (λ (x : Reading). refusal_of_extent x.extent) same) ∙ d
+module _ (r q : Result Reading Refusal) (same : r ≡ q) (due : ℕ) (d : refusal_of r ≡ due) (a : List ℕ) where
+  number : refusal_of q ≡ due
+  number = sym (ap (λ (x : Result Reading Refusal). refusal_of x) same) ∙ d
 
   pub judged-gives : {b : Back} → b ≡ judged r a → Gives (a ∷ []) (judged q a) (due_if_right (judge_right a) due) b
   unfolding judged
-  judged-gives e = reading-gives (judge_right a) q.extent (a ∷ []) (λ n. judged_octets n q ∷ []) due (e ∙ ap (λ (x : Reading). judged x a) same) number
+  judged-gives e = reading-gives (judge_right a) q (a ∷ []) (λ x. judged_octets x ∷ []) due (e ∙ ap (λ (x : Result Reading Refusal). judged x a) same) number
 
   pub read-gives : (s : List ℕ) {b : Back} → b ≡ read_answer r a s → Gives (a ∷ s ∷ []) (read_answer q a s) (due_if_right (read_right a s) due) b
   unfolding read_answer
   read-gives s e =
-      reading-gives (read_right a s) q.extent (a ∷ s ∷ []) (λ n. verdict_octets n q ∷ description_octets q.description ∷ []) due
-      (e ∙ ap (λ (x : Reading). read_answer x a s) same) number
+      reading-gives (read_right a s) q (a ∷ s ∷ []) (λ x. verdict_octets x ∷ description_octets x.description ∷ []) due
+      (e ∙ ap (λ (x : Result Reading Refusal). read_answer x a s) same) number
 
 -- An announcement: the octets o of a description, the text s, the output and the answer a
 
@@ -112,9 +113,9 @@ module _ (o s out a : List ℕ) where
   d = description_in o
 
   write-gives : (right ok : Bool) (w : Written) {b : Back} → b ≡ if_right right (out ∷ a ∷ []) (pick ok (on_written w s d out a) (back 9 (out ∷ a ∷ [])))
-      → Gives (out ∷ a ∷ []) (if_right right (out ∷ a ∷ []) (pick ok (on_written w s d out a) (back 9 (out ∷ a ∷ [])))) (due_if_right right (pick ok (refusal_of_written w) 9)) b
-  write-gives true true (written_is.Refused n) e = gives e refl (λ h. refl)
-  write-gives true true (written_is.Octets n) e = gives e refl (λ h. absurd (h refl))
+      → Gives (out ∷ a ∷ []) (if_right right (out ∷ a ∷ []) (pick ok (on_written w s d out a) (back 9 (out ∷ a ∷ [])))) (due_if_right right (pick ok (refusal_of w) 9)) b
+  write-gives true true (Err r) e = gives e refl (λ h. refl)
+  write-gives true true (Ok n) e = gives e refl (λ h. absurd (h refl))
   write-gives true false w e = gives e refl (λ h. refl)
   write-gives false ok w e = gives e refl (λ h. refl)
 
@@ -130,7 +131,7 @@ module _ (o s out a : List ℕ) where
       → Gives (out ∷ a ∷ []) (writing o s out a) (due_if_right (write_right o a) (refusal_on_writing o s out)) (back n (u ∷ v ∷ []))
   unfolding writing refusal_on_writing written
   written-gives {e} {w} {n} u v l r p q h k =
-      let z : back n (v ∷ []) ≡ back (refusal_of_written w) (written_octets w a ∷ []) = rw (eq-eqb (length a) written_long l) at k in
+      let z : back n (v ∷ []) ≡ back (refusal_of w) (written_octets w a ∷ []) = rw (eq-eqb (length a) written_long l) at k in
       let y : back n (u ∷ v ∷ []) ≡ on_written w s e out a = ap₂ (λ (x : Back) (m : List ℕ). back x.returned (m ∷ x.slices)) z h.output in
       let x : on_written w s e out a ≡ on_written (write_of s d (length out)) s d out a =
       ap₂ (λ (x : Written) (y : Description). on_written x s y out a) (h.exact ∙ ap (λ (y : Description). write_of s y (length out)) q) q in
@@ -159,18 +160,18 @@ module _ (x y : Lent) (b c : List ℕ) (t : Table) (right : lengths_ok x ≡ tru
 
   -- calls that answer done or a refusal
   module _ (call : State → After) (unchanged : Unchanged s (call s)) where
-    after-stays : refusal_of_answer (call s).outcome.answer ≢ 0 → state_slices (state_after (call s)) ≡ table_slices x b
+    after-stays : refusal_of (call s).outcome.answer ≢ 0 → state_slices (state_after (call s)) ≡ table_slices x b
     after-stays = go (call s).outcome.answer refl
       where
-        go : (v : Answer) → (call s).outcome.answer ≡ v → refusal_of_answer v ≢ 0 → state_slices (state_after (call s)) ≡ table_slices x b
-        go answer-is.Done e h = absurd (h refl)
-        go (answer-is.Refused n) e h = same-octets (state_after (call s)) (unchanged n e)
+        go : (v : Answer) → (call s).outcome.answer ≡ v → refusal_of v ≢ 0 → state_slices (state_after (call s)) ≡ table_slices x b
+        go (Ok u) e h = absurd (h refl)
+        go (Err r) e h = same-octets (state_after (call s)) (unchanged r e)
 
-    pub after-changes : (due : ℕ) {n : ℕ} (o : Outcome) → o.table ≡ t → after o c ≡ call s → refusal_of_answer o.answer ≡ due → n ≡ refusal_of_answer o.answer
+    pub after-changes : (due : ℕ) {n : ℕ} (o : Outcome) → o.table ≡ t → after o c ≡ call s → refusal_of o.answer ≡ due → n ≡ refusal_of o.answer
         → Changes (lengths_ok x) (table_slices x b) (after_call call x b) (due_if_right (lengths_ok x) due) (state_after (call s)) (state_in y c) (back n (table_slices y c))
     after-changes due o own e d k =
         let left : state t c ≡ state_after (call s) = ap (λ (z : Table). state z c) (sym own) ∙ ap state_after e in
-        let number = ap (λ (z : After). refusal_of_answer z.outcome.answer) e in
+        let number = ap (λ (z : After). refusal_of z.outcome.answer) e in
         record {
           gives = right-gives right (gives (ap₂ back (k ∙ number) (table-octets (state_after (call s)) left)) (sym number ∙ d) after-stays);
           means = λ z. table-meant (state_after (call s)) left;
@@ -181,26 +182,23 @@ module _ (x y : Lent) (b c : List ℕ) (t : Table) (right : lengths_ok x ≡ tru
     abbrev heard_now : Told
     heard_now = heard p h s
 
-    frame-stays : refusal_of_reply heard_now.outcome.reply ≢ 0
+    frame-stays : refusal_of heard_now.outcome.reply ≢ 0
         → state_slices (state_told heard_now) ++ (reply_octets heard_now.outcome.reply a ∷ []) ≡ table_slices x b ++ (a ∷ [])
     frame-stays = go heard_now.outcome.reply refl
       where
-        go : (r : Reply) → heard_now.outcome.reply ≡ r → refusal_of_reply r ≢ 0 → state_slices (state_told heard_now) ++ (reply_octets r a ∷ []) ≡ table_slices x b ++ (a ∷ [])
-        go reply-is.Recorded e z = absurd (z refl)
-        go reply-is.Refreshed e z = absurd (z refl)
-        go reply-is.Gone e z = absurd (z refl)
-        go reply-is.UnknownGoodbye e z = absurd (z refl)
-        go (reply-is.Refused n) e z = ap (λ (l : List (List ℕ)). l ++ (a ∷ [])) (same-octets (state_told heard_now) (unchanged n e))
+        go : (v : Answered) → heard_now.outcome.reply ≡ v → refusal_of v ≢ 0 → state_slices (state_told heard_now) ++ (reply_octets v a ∷ []) ≡ table_slices x b ++ (a ∷ [])
+        go (Ok r) e z = absurd (z refl)
+        go (Err r) e z = ap (λ (l : List (List ℕ)). l ++ (a ∷ [])) (same-octets (state_told heard_now) (unchanged r e))
 
-    pub frame-changes : (due : ℕ) {n : ℕ} (o : Reception) → o.table ≡ t → length a ≡ reply_long → hearing.told o c ≡ heard_now → refusal_of_reply o.reply ≡ due
+    pub frame-changes : (due : ℕ) {n : ℕ} (o : Reception) → o.table ≡ t → length a ≡ reply_long → hearing.told o c ≡ heard_now → refusal_of o.reply ≡ due
         → back n (v ∷ []) ≡ replied o.reply a
         → Changes (frame_right x a) (table_slices x b ++ (a ∷ [])) (framing p h x b a) (due_if_right (frame_right x a) due) (state_told heard_now) (state_in y c) (back n (table_slices y c ++ (v ∷ [])))
     unfolding framing replied
     frame-changes due {n} o own l e d k =
         let left : state t c ≡ state_told heard_now = ap (λ (z : Table). state z c) (sym own) ∙ ap state_told e in
-        let told : back n (v ∷ []) ≡ back (refusal_of_reply o.reply) (reply_octets o.reply a ∷ []) = rw (eq-eqb (length a) reply_long l) at k in
-        let answer = told ∙ ap (λ (z : Told). back (refusal_of_reply z.outcome.reply) (reply_octets z.outcome.reply a ∷ [])) e in
-        let number = ap (λ (z : Told). refusal_of_reply z.outcome.reply) e in
+        let told : back n (v ∷ []) ≡ back (refusal_of o.reply) (reply_octets o.reply a ∷ []) = rw (eq-eqb (length a) reply_long l) at k in
+        let answer = told ∙ ap (λ (z : Told). back (refusal_of z.outcome.reply) (reply_octets z.outcome.reply a ∷ [])) e in
+        let number = ap (λ (z : Told). refusal_of z.outcome.reply) e in
         record {
           gives =
               right-gives (both_hold right (eq-eqb (length a) reply_long l))
@@ -215,26 +213,26 @@ whole-six w e = six-there w 0 (omega (arith, e)) ∙ take_all 6 w (omega (arith,
 -- A question about the table that slices x and a buffer b mean, with the answer a
 
 module _ (x : Lent) (b a : List ℕ) (long : lengths_ok x ≡ true) where
-  pub count_gives : (p due : ℕ) {r : Back} {q : Count} → q ≡ questions.counted p (state_in x b) → refusal_of_count q ≡ due → r ≡ answers.counted q a
+  pub count_gives : (p due : ℕ) {r : Back} {q : Result ℕ Refusal} → q ≡ questions.counted p (state_in x b) → refusal_of q ≡ due → r ≡ answers.counted q a
       → Gives (a ∷ []) (counting p x b a) (due_if_right (count_right x a) due) r
   unfolding counting answers.counted
-  count_gives p due {r} {q} e d k = rw long (go (eqb (length a) count_long) (questions.counted p (state_in x b)) (sym (ap refusal_of_count e) ∙ d) (k ∙ ap (λ (z : Count). answers.counted z a) e))
+  count_gives p due {r} {q} e d k = rw long (go (eqb (length a) count_long) (questions.counted p (state_in x b)) (sym (ap refusal_of e) ∙ d) (k ∙ ap (λ (z : Result ℕ Refusal). answers.counted z a) e))
     where
-      go : (t : Bool) (z : Count) → refusal_of_count z ≡ due → r ≡ if_right t (a ∷ []) (back (refusal_of_count z) (count_octets z a ∷ []))
-          → Gives (a ∷ []) (if_right t (a ∷ []) (back (refusal_of_count z) (count_octets z a ∷ []))) (due_if_right t due) r
-      go true (count-is.Holds n) d k = gives k d (λ h. absurd (h refl))
-      go true (count-is.Refused n) d k = gives k d (λ h. refl)
+      go : (t : Bool) (z : Result ℕ Refusal) → refusal_of z ≡ due → r ≡ if_right t (a ∷ []) (back (refusal_of z) (count_octets z a ∷ []))
+          → Gives (a ∷ []) (if_right t (a ∷ []) (back (refusal_of z) (count_octets z a ∷ []))) (due_if_right t due) r
+      go true (Ok n) d k = gives k d (λ h. absurd (h refl))
+      go true (Err n) d k = gives k d (λ h. refl)
       go false z d k = gives k refl (λ h. refl)
 
-  pub sight-gives : (w : List ℕ) (from due : ℕ) {r : Back} {q : Sight} → eqb (length w) address_long ≡ true → q ≡ sight w from (state_in x b) → refusal_of_sight q ≡ due → r ≡ answers.seen q a
+  pub sight-gives : (w : List ℕ) (from due : ℕ) {r : Back} {q : Result (Option Sight) Refusal} → eqb (length w) address_long ≡ true → q ≡ sight w from (state_in x b) → refusal_of q ≡ due → r ≡ answers.seen q a
       → Gives (a ∷ []) (seeing w from x b a) (due_if_right (see_right x w a) due) r
   unfolding seeing answers.seen
   sight-gives w from due {r} {q} six e d k =
-      rw (long, six) (rw (both_end (eqb (length a) sight_long)) (go (eqb (length a) sight_long) (sight w from (state_in x b)) (sym (ap refusal_of_sight e) ∙ d) (k ∙ ap (λ (z : Sight). answers.seen z a) e)))
+      rw (long, six) (rw (both_end (eqb (length a) sight_long)) (go (eqb (length a) sight_long) (sight w from (state_in x b)) (sym (ap refusal_of e) ∙ d) (k ∙ ap (λ (z : Result (Option Sight) Refusal). answers.seen z a) e)))
     where
-      go : (t : Bool) (z : Sight) → refusal_of_sight z ≡ due → r ≡ if_right t (a ∷ []) (back (refusal_of_sight z) (sight_octets z a ∷ []))
-          → Gives (a ∷ []) (if_right t (a ∷ []) (back (refusal_of_sight z) (sight_octets z a ∷ []))) (due_if_right t due) r
-      go true (sight-is.Refused n) d k = gives k d (λ h. refl)
-      go true sight-is.Nobody d k = gives k d (λ h. absurd (h refl))
-      go true (sight-is.At l i p) d k = gives k d (λ h. absurd (h refl))
+      go : (t : Bool) (z : Result (Option Sight) Refusal) → refusal_of z ≡ due → r ≡ if_right t (a ∷ []) (back (refusal_of z) (sight_octets z a ∷ []))
+          → Gives (a ∷ []) (if_right t (a ∷ []) (back (refusal_of z) (sight_octets z a ∷ []))) (due_if_right t due) r
+      go true (Err n) d k = gives k d (λ h. refl)
+      go true (Ok None) d k = gives k d (λ h. absurd (h refl))
+      go true (Ok (Some v)) d k = gives k d (λ h. absurd (h refl))
       go false z d k = gives k refl (λ h. refl)

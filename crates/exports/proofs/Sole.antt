@@ -1,9 +1,10 @@
 -- For each export: what it returns and what every slice that it may write then holds, that its contract allows, is one.
 -- The contracts are the toolchain's own reading of the source (`Post` of each function's `Reads`).
-use mathlib.Core.Path.{sym, ◌∙◌}
-use mathlib.Core.List.{[], ◌∷◌, ◌++◌}
+use Prim.Native.Nat.{ℕ}
+use mathlib.Core.Path.{◌≡◌, sym, ap, ◌∙◌}
+use mathlib.Core.List.{List, [], ◌∷◌, ◌++◌}
 use Rattle.octet_table.specs.Lent.{lent}
-use Rattle.octet_answers.specs.Answers.{back}
+use Rattle.octet_answers.specs.Answers.{Back, back}
 use Rattle.octet_answers.proofs.Sole.{SoleBack}
 use Rattle.exports.specs.Calls.{table_slices}
 use Rattle.exports.proofs.frames.tambolune_judge.Kinds as judge-kinds
@@ -29,43 +30,46 @@ use Rattle.exports.proofs.calls.tambolune_who_sees.Reads as sees
 use Rattle.exports.proofs.looks.tambolune_compare.Kinds as compare-kinds
 use Rattle.exports.proofs.looks.tambolune_compare.Reads as compare
 
+both : {n m : ℕ} {s t : List (List ℕ)} {b : Back} → back n s ≡ b → back m t ≡ b → (n ≡ m) × (back n s ≡ back m t)
+both e f = let d = e ∙ sym f in (ap (λ (b : Back). b.returned) d, d)
+
 pub judge-sole : SoleBack 2 judge-kinds.ps judge-kinds.r judge.Post (λ κs r x. back r (x.1.0.now ∷ []))
-judge-sole κs a r q x y e f = e.exact ∙ sym f.exact
+judge-sole κs a r q x y e f = both e.exact f.exact
 
 pub read-sole : SoleBack 3 read-kinds.ps read-kinds.r read.Post (λ κs r x. back r (x.1.0.now ∷ x.1.1.0.now ∷ []))
-read-sole κs a r q x y e f = e.exact ∙ sym f.exact
+read-sole κs a r q x y e f = both e.exact f.exact
 
 pub read-lldpdu-sole : SoleBack 3 lldpdu-kinds.ps lldpdu-kinds.r lldpdu.Post (λ κs r x. back r (x.1.0.now ∷ x.1.1.0.now ∷ []))
-read-lldpdu-sole κs a r q x y e f = e.exact ∙ sym f.exact
+read-lldpdu-sole κs a r q x y e f = both e.exact f.exact
 
 pub write-sole : SoleBack 4 write-kinds.ps write-kinds.r write.Post (λ κs r x. back r (x.1.1.0.now ∷ x.1.1.1.0.now ∷ []))
-write-sole κs a r q x y e f = e.exact ∙ sym f.exact
+write-sole κs a r q x y e f = both e.exact f.exact
 
 -- the table's slices are the first five parameters of each call
 
 pub start-sole : SoleBack 5 start-kinds.ps start-kinds.r start.Post
     (λ κs r x. back r (table_slices (lent x.0.now x.1.0.now x.1.1.0.now x.1.1.1.0.now) x.1.1.1.1.0.now))
-start-sole κs a r q x y e f = e.gives.exact ∙ sym f.gives.exact
+start-sole κs a r q x y e f = both e.gives.exact f.gives.exact
 
 pub frame-on-port-sole : SoleBack 7 frame-kinds.ps frame-kinds.r frame.Post
     (λ κs r x. back r (table_slices (lent x.0.now x.1.0.now x.1.1.0.now x.1.1.1.0.now) x.1.1.1.1.0.now ++ (x.1.1.1.1.1.1.1.0.now ∷ [])))
-frame-on-port-sole κs a r q x y e f = e.gives.exact ∙ sym f.gives.exact
+frame-on-port-sole κs a r q x y e f = both e.gives.exact f.gives.exact
 
 pub seconds-passed-sole : SoleBack 5 passed-kinds.ps passed-kinds.r passed.Post
     (λ κs r x. back r (table_slices (lent x.0.now x.1.0.now x.1.1.0.now x.1.1.1.0.now) x.1.1.1.1.0.now))
-seconds-passed-sole κs a r q x y e f = e.gives.exact ∙ sym f.gives.exact
+seconds-passed-sole κs a r q x y e f = both e.gives.exact f.gives.exact
 
 pub link-lost-sole : SoleBack 5 lost-kinds.ps lost-kinds.r lost.Post
     (λ κs r x. back r (table_slices (lent x.0.now x.1.0.now x.1.1.0.now x.1.1.1.0.now) x.1.1.1.1.0.now))
-link-lost-sole κs a r q x y e f = e.gives.exact ∙ sym f.gives.exact
+link-lost-sole κs a r q x y e f = both e.gives.exact f.gives.exact
 
 pub how-many-sole : SoleBack 6 many-kinds.ps many-kinds.r many.Post (λ κs r x. back r (x.1.1.1.1.1.1.0.now ∷ []))
-how-many-sole κs a r q x y e f = e.exact ∙ sym f.exact
+how-many-sole κs a r q x y e f = both e.exact f.exact
 
 pub who-sees-sole : SoleBack 7 sees-kinds.ps sees-kinds.r sees.Post (λ κs r x. back r (x.1.1.1.1.1.1.1.0.now ∷ []))
-who-sees-sole κs a r q x y e f = e.exact ∙ sym f.exact
+who-sees-sole κs a r q x y e f = both e.exact f.exact
 
 -- list and answer stand behind the ten slices of the two tables
 pub compare-sole : SoleBack 12 compare-kinds.ps compare-kinds.r compare.Post
     (λ κs r x. back r (x.1.1.1.1.1.1.1.1.1.1.0.now ∷ x.1.1.1.1.1.1.1.1.1.1.1.0.now ∷ []))
-compare-sole κs a r q x y e f = e.exact ∙ sym f.exact
+compare-sole κs a r q x y e f = both e.exact f.exact

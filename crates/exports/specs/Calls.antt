@@ -1,23 +1,24 @@
 -- What each export gives (X1 to X6): what it returns, and what every slice that it may write then holds.
 -- Each is the call that a caller of ours has, on the table or the description that the octets mean.
-use Rattle.std.specs.Prelude.{ℕ, ◌≡◌, ◌≢◌, Bool, true, List, [], ◌∷◌, ◌++◌, length, take, leb, eqb}
+use Rattle.std.specs.Prelude.{ℕ, ◌≡◌, ◌≢◌, Bool, true, List, [], ◌∷◌, ◌++◌, length, take, leb, eqb, Result, Err}
 use Rattle.tally.specs.Tests.{pick, both, all}
-use Rattle.lldpdu.specs.Extent.{refusal_of_extent, extent_of}
-use Rattle.reading.specs.Reading.{refused_reading, reading_of}
+use Rattle.refusal.specs.Refusal.{refusal_of}
+use Rattle.refusal.specs.declared.Refusal.{Refusal}
+use Rattle.refusal.specs.declared.Refusal.TheVariants.{NoFrame}
+use Rattle.lldpdu.specs.Extent.{extent_of}
+use Rattle.reading.specs.Reading.{reading_of}
 use Rattle.reading.specs.Meaning.{said_by}
 use Rattle.reading.specs.declared.Reading.{Reading}
 use Rattle.reading.specs.declared.Description.{Description}
 use Rattle.reader.specs.Frame.{on_frame, frame_refusal}
 use Rattle.announcement.specs.Encode.{encode}
-use Rattle.writer.specs.Write.{refusal_of_written, octets_written, write_of, over}
-use Rattle.writer.specs.declared.Written.{Written}
-use Rattle.rules.specs.Answers.{refusal_of_reply}
+use Rattle.writer.specs.Write.{octets_written, write_of, over}
 use Rattle.place.specs.State.{State, state}
 use Rattle.fitness.specs.Refusals.{refusal_when_unfit, refusal_on_port}
-use Rattle.freeing.specs.Calls.{After, state_after, refusal_of_answer, started, refusal_at_start, passed, link_lost}
+use Rattle.freeing.specs.Calls.{After, state_after, started, refusal_at_start, passed, link_lost}
 use Rattle.hearing.specs.Frame.{Told, state_told, heard, refusal_on_frame}
-use Rattle.questions.specs.Sight.{refusal_of_count, counted, refusal_of_sight, sight}
-use Rattle.compare.specs.Compare.{refusal_of_compared, refusal_on_comparing, Looked, compared}
+use Rattle.questions.specs.Sight.{counted, sight}
+use Rattle.compare.specs.Compare.{refusal_on_comparing, Looked, compared}
 use Rattle.octet_table.specs.Lent.{Lent, lengths_ok, table_in, lent_of}
 use Rattle.octet_description.specs.Octets.{size, description_in, presences_ok}
 use Rattle.octet_answers.specs.Answers.{Back, back, if_right, judge_right, judged, read_right, read_answer, written_long, reply_long, count_long, sight_long, compared_long, written_octets, reply_octets, count_octets, sight_octets, compared_octets}
@@ -33,8 +34,8 @@ pub record Gives (ss : List (List ℕ)) (want : Back) (due : ℕ) (r : Back) : T
 
 -- Frames and announcements
 
-abbrev pub frame_reading : List ℕ → Reading
-frame_reading f = on_frame (refused_reading 3) reading_of f
+abbrev pub frame_reading : List ℕ → Result Reading Refusal
+frame_reading f = on_frame (Err NoFrame) reading_of f
 
 -- a start and a length have two octets, so of a bare LLDPDU no more than 65,535 octets are looked at (X5)
 abbrev pub looked_at : List ℕ → List ℕ
@@ -45,8 +46,8 @@ abbrev pub write_right : List ℕ → List ℕ → Bool
 write_right o a = both (eqb (length o) size) (eqb (length a) written_long)
 
 -- what was written stands in front of what was in the output; a refusal writes nothing (W4, Q2)
-abbrev pub on_written : Written → List ℕ → Description → List ℕ → List ℕ → Back
-on_written w s d out a = back (refusal_of_written w) (over (octets_written w) (encode (said_by s d)) out ∷ written_octets w a ∷ [])
+abbrev pub on_written : Result ℕ Refusal → List ℕ → Description → List ℕ → List ℕ → Back
+on_written w s d out a = back (refusal_of w) (over (octets_written w) (encode (said_by s d)) out ∷ written_octets w a ∷ [])
 
 -- a presence that is neither 0 nor 1 breaks a rule: 9 (X5)
 unfoldable pub writing : List ℕ → List ℕ → List ℕ → List ℕ → Back
@@ -55,7 +56,7 @@ writing o s out a =
     (pick (presences_ok o) (on_written (write_of s (description_in o) (length out)) s (description_in o) out a) (back 9 (out ∷ a ∷ [])))
 
 unfoldable pub refusal_on_writing : List ℕ → List ℕ → List ℕ → ℕ
-refusal_on_writing o s out = pick (presences_ok o) (refusal_of_written (write_of s (description_in o) (length out))) 9
+refusal_on_writing o s out = pick (presences_ok o) (refusal_of (write_of s (description_in o) (length out))) 9
 
 -- The table: the slices x and the buffer b
 
@@ -74,7 +75,7 @@ pub record Changes (right : Bool) (ss : List (List ℕ)) (want : Back) (due : �
   pub means : right ≡ true → s ≡ left
 
 abbrev pub on_after : After → Back
-on_after t = back (refusal_of_answer t.outcome.answer) (state_slices (state_after t))
+on_after t = back (refusal_of t.outcome.answer) (state_slices (state_after t))
 
 abbrev pub after_call : (State → After) → Lent → List ℕ → Back
 after_call call x b = if_right (lengths_ok x) (table_slices x b) (on_after (call (state_in x b)))
@@ -87,7 +88,7 @@ abbrev pub frame_right : Lent → List ℕ → Bool
 frame_right x a = both (lengths_ok x) (eqb (length a) reply_long)
 
 abbrev pub on_told : Told → List ℕ → Back
-on_told t a = back (refusal_of_reply t.outcome.reply) (state_slices (state_told t) ++ (reply_octets t.outcome.reply a ∷ []))
+on_told t a = back (refusal_of t.outcome.reply) (state_slices (state_told t) ++ (reply_octets t.outcome.reply a ∷ []))
 
 unfoldable pub framing : ℕ → List ℕ → Lent → List ℕ → List ℕ → Back
 framing p f x b a = if_right (frame_right x a) (table_slices x b ++ (a ∷ [])) (on_told (heard p f (state_in x b)) a)
@@ -99,7 +100,7 @@ count_right x a = both (lengths_ok x) (eqb (length a) count_long)
 
 unfoldable pub counting : ℕ → Lent → List ℕ → List ℕ → Back
 counting p x b a =
-    if_right (count_right x a) (a ∷ []) (back (refusal_of_count (counted p (state_in x b))) (count_octets (counted p (state_in x b)) a ∷ []))
+    if_right (count_right x a) (a ∷ []) (back (refusal_of (counted p (state_in x b))) (count_octets (counted p (state_in x b)) a ∷ []))
 
 abbrev pub address_long : ℕ
 address_long = 6
@@ -110,7 +111,7 @@ see_right x w a = all (lengths_ok x ∷ eqb (length w) address_long ∷ eqb (len
 
 unfoldable pub seeing : List ℕ → ℕ → Lent → List ℕ → List ℕ → Back
 seeing w from x b a =
-    if_right (see_right x w a) (a ∷ []) (back (refusal_of_sight (sight w from (state_in x b))) (sight_octets (sight w from (state_in x b)) a ∷ []))
+    if_right (see_right x w a) (a ∷ []) (back (refusal_of (sight w from (state_in x b))) (sight_octets (sight w from (state_in x b)) a ∷ []))
 
 -- Two tables: the slices x and the buffer b of the first, y and d of the second; the list l and the answer are written
 
@@ -118,7 +119,7 @@ abbrev pub compare_right : Lent → Lent → List ℕ → Bool
 compare_right x y a = all (lengths_ok x ∷ lengths_ok y ∷ eqb (length a) compared_long ∷ [])
 
 abbrev pub on_looked : Looked → List ℕ → Back
-on_looked t a = back (refusal_of_compared t.answer) (t.list ∷ compared_octets t.answer a ∷ [])
+on_looked t a = back (refusal_of t.answer) (t.list ∷ compared_octets t.answer a ∷ [])
 
 unfoldable pub comparing : Lent → List ℕ → Lent → List ℕ → List ℕ → List ℕ → Back
 comparing x b y d l a = if_right (compare_right x y a) (l ∷ a ∷ []) (on_looked (compared (state_in x b) (state_in y d) l) a)
@@ -128,14 +129,14 @@ comparing x b y d l a = if_right (compare_right x y a) (l ∷ a ∷ []) (on_look
 abbrev pub Judges : List ℕ → List ℕ → List ℕ → ℕ → Type 0
 Judges f a a' r = Gives (a ∷ []) (judged (frame_reading f) a) (due_if_right (judge_right a) (frame_refusal f)) (back r (a' ∷ []))
 
-abbrev pub Tells : Reading → ℕ → List ℕ → List ℕ → List ℕ → List ℕ → ℕ → Type 0
+abbrev pub Tells : Result Reading Refusal → ℕ → List ℕ → List ℕ → List ℕ → List ℕ → ℕ → Type 0
 Tells q due a d a' d' r = Gives (a ∷ d ∷ []) (read_answer q a d) (due_if_right (read_right a d) due) (back r (a' ∷ d' ∷ []))
 
 abbrev pub TellsFrame : List ℕ → List ℕ → List ℕ → List ℕ → List ℕ → ℕ → Type 0
 TellsFrame f = Tells (frame_reading f) (frame_refusal f)
 
 abbrev pub TellsLldpdu : List ℕ → List ℕ → List ℕ → List ℕ → List ℕ → ℕ → Type 0
-TellsLldpdu s = Tells (reading_of (looked_at s)) (refusal_of_extent (extent_of (looked_at s)))
+TellsLldpdu s = Tells (reading_of (looked_at s)) (refusal_of (extent_of (looked_at s)))
 
 abbrev pub Writes : List ℕ → List ℕ → List ℕ → List ℕ → List ℕ → List ℕ → ℕ → Type 0
 Writes o s out a out' a' r =

@@ -1,14 +1,15 @@
 // The calls from C on a table (X1): its numbers and senders are four lent slices beside the buffer.
 // A refusal puts the same octets back, so it needs no branch of its own.
 ghost use Rattle.std.specs.Prelude.{◌≡◌};
-ghost use Rattle.freeing.specs.Calls.{refusal_of_answer};
+ghost use Rattle.refusal.specs.Refusal.{refusal_of};
 ghost use Rattle.octet_table.specs.Lent.{lent};
 ghost use Rattle.exports.specs.Calls.{capped_of, Starts, Hears, Passes, Loses, Counts, Sees};
 
-use octet_answers::{REPLY, WRONG_LENGTH, answer_count, answer_reply, answer_sight};
+use octet_answers::{REPLY, answer_count, answer_reply, answer_sight};
 use octet_table::{lengths_fit, put_table, table_in};
 use octets::six;
-use table::{Answer, frame_on_port, how_many, link_lost, seconds_passed, start, who_sees};
+use refusal::Refusal;
+use table::{frame_on_port, how_many, link_lost, seconds_passed, start, who_sees};
 
 // The octets of an address (X2).
 pub(crate) const ADDRESS: usize = 6;
@@ -16,12 +17,16 @@ pub(crate) const ADDRESS: usize = 6;
 // No record has more seconds left, so more than that act as that many (X6).
 const LONGEST: usize = 65535;
 
-fn refusal_of(a: Answer) -> u8
-    ensures { result ≡ refusal_of_answer a }
+// What a slice of a wrong length gives (X2).
+pub(crate) const WRONG_LENGTH: u8 = Refusal::Unfit as u8;
+
+// The number of a refusal, and 0 where there is none.
+pub(crate) fn refusal_of(answer: Result<(), Refusal>) -> u8
+    ensures { result ≡ refusal_of answer }
 {
-    match a {
-        Answer::Done => 0,
-        Answer::Refused(n) => n,
+    match answer {
+        Ok(()) => 0,
+        Err(refusal) => u8::from(refusal),
     }
 }
 
@@ -35,14 +40,12 @@ pub fn tambolune_start(
 ) -> u8
     ensures { Starts (lent ports.old seconds.old lengths.old senders.old) buffer.old (lent ports.new seconds.new lengths.new senders.new) buffer.new result }
 {
-    if lengths_fit(ports.len(), seconds.len(), lengths.len(), senders.len()) {} else {
+    if !lengths_fit(ports.len(), seconds.len(), lengths.len(), senders.len()) {
         return WRONG_LENGTH;
     }
     let r = start(table_in(ports, seconds, lengths, senders), buffer);
-    let table = r.table;
-    let answer = r.answer;
-    put_table(table, ports, seconds, lengths, senders);
-    refusal_of(answer)
+    put_table(r.table, ports, seconds, lengths, senders);
+    refusal_of(r.answer)
 }
 
 // Refusals 1 to 8, 13.
@@ -58,7 +61,7 @@ pub fn tambolune_frame_on_port(
 ) -> u8
     ensures { Hears port frame.now (lent ports.old seconds.old lengths.old senders.old) buffer.old answer.old (lent ports.new seconds.new lengths.new senders.new) buffer.new answer.new result }
 {
-    if lengths_fit(ports.len(), seconds.len(), lengths.len(), senders.len()) {} else {
+    if !lengths_fit(ports.len(), seconds.len(), lengths.len(), senders.len()) {
         return WRONG_LENGTH;
     }
     if answer.len() != REPLY {
@@ -70,19 +73,14 @@ pub fn tambolune_frame_on_port(
         port,
         frame,
     );
-    let table = r.table;
-    let reply = r.reply;
-    put_table(table, ports, seconds, lengths, senders);
-    answer_reply(answer, reply)
+    put_table(r.table, ports, seconds, lengths, senders);
+    refusal_of(answer_reply(answer, r.reply))
 }
 
 fn capped(seconds: usize) -> u16
     ensures { result ≡ capped_of seconds }
 {
-    if seconds > LONGEST {
-        return LONGEST as u16;
-    }
-    seconds as u16
+    seconds.min(LONGEST) as u16
 }
 
 // Refusal 1.
@@ -96,7 +94,7 @@ pub fn tambolune_seconds_passed(
 ) -> u8
     ensures { Passes gone (lent ports.old seconds.old lengths.old senders.old) buffer.old (lent ports.new seconds.new lengths.new senders.new) buffer.new result }
 {
-    if lengths_fit(ports.len(), seconds.len(), lengths.len(), senders.len()) {} else {
+    if !lengths_fit(ports.len(), seconds.len(), lengths.len(), senders.len()) {
         return WRONG_LENGTH;
     }
     let r = seconds_passed(
@@ -104,10 +102,8 @@ pub fn tambolune_seconds_passed(
         buffer,
         capped(gone),
     );
-    let table = r.table;
-    let answer = r.answer;
-    put_table(table, ports, seconds, lengths, senders);
-    refusal_of(answer)
+    put_table(r.table, ports, seconds, lengths, senders);
+    refusal_of(r.answer)
 }
 
 // Refusals 1 and 2.
@@ -121,14 +117,12 @@ pub fn tambolune_link_lost(
 ) -> u8
     ensures { Loses port (lent ports.old seconds.old lengths.old senders.old) buffer.old (lent ports.new seconds.new lengths.new senders.new) buffer.new result }
 {
-    if lengths_fit(ports.len(), seconds.len(), lengths.len(), senders.len()) {} else {
+    if !lengths_fit(ports.len(), seconds.len(), lengths.len(), senders.len()) {
         return WRONG_LENGTH;
     }
     let r = link_lost(table_in(ports, seconds, lengths, senders), buffer, port);
-    let table = r.table;
-    let answer = r.answer;
-    put_table(table, ports, seconds, lengths, senders);
-    refusal_of(answer)
+    put_table(r.table, ports, seconds, lengths, senders);
+    refusal_of(r.answer)
 }
 
 // Refusals 1 and 2.
@@ -143,11 +137,11 @@ pub fn tambolune_how_many(
 ) -> u8
     ensures { Counts port (lent ports.now seconds.now lengths.now senders.now) buffer.now answer.old answer.new result }
 {
-    if lengths_fit(ports.len(), seconds.len(), lengths.len(), senders.len()) {} else {
+    if !lengths_fit(ports.len(), seconds.len(), lengths.len(), senders.len()) {
         return WRONG_LENGTH;
     }
     let count = how_many(table_in(ports, seconds, lengths, senders), buffer, port);
-    answer_count(answer, count)
+    refusal_of(answer_count(answer, count))
 }
 
 // Refusal 1.
@@ -163,10 +157,9 @@ pub fn tambolune_who_sees(
 ) -> u8
     ensures { Sees address.now start (lent ports.now seconds.now lengths.now senders.now) buffer.now answer.old answer.new result }
 {
-    if lengths_fit(ports.len(), seconds.len(), lengths.len(), senders.len()) {} else {
-        return WRONG_LENGTH;
-    }
-    if address.len() != ADDRESS {
+    if !lengths_fit(ports.len(), seconds.len(), lengths.len(), senders.len())
+        || address.len() != ADDRESS
+    {
         return WRONG_LENGTH;
     }
     let sight = who_sees(
@@ -175,5 +168,5 @@ pub fn tambolune_who_sees(
         six(address, 0),
         start,
     );
-    answer_sight(answer, sight)
+    refusal_of(answer_sight(answer, sight))
 }

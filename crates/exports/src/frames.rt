@@ -2,27 +2,26 @@
 // A part of what is read counts from the first octet of the LLDPDU, which in a frame stands behind the header (X5).
 ghost use Rattle.exports.specs.Calls.{Judges, TellsFrame, TellsLldpdu, Writes};
 
-use octet_answers::{WRITTEN, WRONG_LENGTH, answer_judged, answer_reading, answer_written};
+use crate::calls::{WRONG_LENGTH, refusal_of};
+use octet_answers::{WRITTEN, answer_judged, answer_reading, answer_written};
 use octet_description::{SIZE, description_in, presences_fit};
 use reader::{read_frame, read_lldpdu};
+use refusal::Refusal;
 use text::{Part, text_of};
 use writer::write;
-
-// A presence that is neither 0 nor 1 (X5, R9).
-const BREAKS_A_RULE: u8 = 9;
 
 // Refusals 1, 3 to 6.
 pub fn tambolune_judge(frame: &[u8], answer: &mut [u8]) -> u8
     ensures { Judges frame.now answer.old answer.new result }
 {
-    answer_judged(answer, read_frame(frame))
+    refusal_of(answer_judged(answer, read_frame(frame)))
 }
 
 // Refusals 1, 3 to 6.
 pub fn tambolune_read(frame: &[u8], answer: &mut [u8], description: &mut [u8]) -> u8
     ensures { TellsFrame frame.now answer.old description.old answer.new description.new result }
 {
-    answer_reading(answer, description, read_frame(frame))
+    refusal_of(answer_reading(answer, description, read_frame(frame)))
 }
 
 // The most octets of an LLDPDU that are looked at: a start and a length have two octets (X5).
@@ -39,22 +38,20 @@ pub fn tambolune_read_lldpdu(lldpdu: &[u8], answer: &mut [u8], description: &mut
             len: LOOKED_AT,
         },
     );
-    answer_reading(answer, description, read_lldpdu(front))
+    refusal_of(answer_reading(answer, description, read_lldpdu(front)))
 }
 
 // Refusals 1, 9, 10. The answer's length is tested before anything is written (X2).
 pub fn tambolune_write(description: &[u8], text: &[u8], output: &mut [u8], answer: &mut [u8]) -> u8
     ensures { Writes description.now text.now output.old answer.old output.new answer.new result }
 {
-    if description.len() != SIZE {
+    if description.len() != SIZE || answer.len() != WRITTEN {
         return WRONG_LENGTH;
     }
-    if answer.len() != WRITTEN {
-        return WRONG_LENGTH;
+    // A presence is 0 or 1 (X5).
+    if !presences_fit(description) {
+        return Refusal::BreaksARule as u8;
     }
-    if presences_fit(description) {} else {
-        return BREAKS_A_RULE;
-    }
-    let w = write(description_in(description), text, output);
-    answer_written(answer, w)
+    let written = write(description_in(description), text, output);
+    refusal_of(answer_written(answer, written))
 }

@@ -3,8 +3,9 @@
 ghost use Rattle.octet_table.specs.Lent.{lent};
 ghost use Rattle.exports.specs.Calls.{Compares};
 
+use crate::calls::{WRONG_LENGTH, refusal_of};
 use compare::compare;
-use octet_answers::{COMPARED, WRONG_LENGTH, answer_compared};
+use octet_answers::{COMPARED, answer_compared};
 use octet_table::{lengths_fit, table_in};
 
 // Refusals 1 and 14. The answer's length is tested before anything is written (X2).
@@ -24,10 +25,10 @@ pub fn tambolune_compare(
 ) -> u8
     ensures { Compares (lent ports.now seconds.now lengths.now senders.now) buffer.now (lent ports2.now seconds2.now lengths2.now senders2.now) buffer2.now list.old answer.old list.new answer.new result }
 {
-    if lengths_fit(ports.len(), seconds.len(), lengths.len(), senders.len()) {} else {
+    if !lengths_fit(ports.len(), seconds.len(), lengths.len(), senders.len()) {
         return WRONG_LENGTH;
     }
-    if lengths_fit(ports2.len(), seconds2.len(), lengths2.len(), senders2.len()) {} else {
+    if !lengths_fit(ports2.len(), seconds2.len(), lengths2.len(), senders2.len()) {
         return WRONG_LENGTH;
     }
     if answer.len() != COMPARED {
@@ -35,6 +36,6 @@ pub fn tambolune_compare(
     }
     let first = table_in(ports, seconds, lengths, senders);
     let second = table_in(ports2, seconds2, lengths2, senders2);
-    let c = compare(first, buffer, second, buffer2, list);
-    answer_compared(answer, c)
+    let entries = compare(first, buffer, second, buffer2, list);
+    refusal_of(answer_compared(answer, entries))
 }

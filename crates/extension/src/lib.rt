@@ -78,8 +78,7 @@ fn items_end(t: &[u8], from: usize, count: usize) -> usize
         if at >= t.len() {
             return at + (count - i);
         }
-        let size = 1 + octet(t, at) as usize;
-        at = at + size;
+        at += 1 + octet(t, at) as usize;
     }
     at
 }
@@ -109,9 +108,9 @@ fn opening_of(t: &[u8]) -> Opening
     let items = octet(t, at + 2);
     Opening {
         at: at + 3,
-        width: width,
-        addresses: addresses,
-        items: items,
+        width,
+        addresses,
+        items,
     }
 }
 
@@ -125,8 +124,8 @@ fn closing_of(t: &[u8], h: Opening) -> Closing
     let pairings = octet(t, at + 1);
     Closing {
         at: at + 2,
-        portitems: portitems,
-        pairings: pairings,
+        portitems,
+        pairings,
     }
 }
 
@@ -134,13 +133,7 @@ fn closing_of(t: &[u8], h: Opening) -> Closing
 fn width_fits(width: u8, addresses: u8, pairings: u8) -> bool
     ensures { result ≡ width_ok width addresses pairings }
 {
-    if width >= 1 {
-        return true;
-    }
-    if addresses != 0 {
-        return false;
-    }
-    pairings == 0
+    width >= 1 || (addresses == 0 && pairings == 0)
 }
 
 // Whether the last item of the port ends where the octets end.
@@ -167,10 +160,7 @@ pub fn extension_fits(t: &[u8]) -> bool
     }
     let h = opening_of(t);
     let e = closing_of(t, h);
-    if !width_fits(h.width, h.addresses, e.pairings) {
-        return false;
-    }
-    ends_there(t, h, e)
+    width_fits(h.width, h.addresses, e.pairings) && ends_there(t, h, e)
 }
 
 // Whether the address is one of the k; addresses of another length are not looked at, nor are pairing addresses (A4).

@@ -20,10 +20,9 @@ use Rattle.rules.specs.Identity.{Ident}
 use Rattle.rules.specs.Shares.{per_chassis, chassis_is}
 use Rattle.rules.proofs.SharesLaws.{chassis-true, chassis-is}
 use Rattle.numbers.specs.Sizes.{places}
-use Rattle.numbers.specs.declared.Table.{Table}
-use Rattle.place.specs.State.{State, state, at, used, who_at, passes, is_of, count_records}
+use Rattle.place.specs.State.{State, at, used, who_at, passes, count_records}
 use Rattle.fitness.specs.Fit.{single, within, fits_in}
-use Rattle.fitness.specs.Beside.{by_numbers, no_fourth}
+use Rattle.fitness.specs.Beside.{no_fourth}
 use Rattle.marks.specs.Marks.{chassis_mark, identity_mark, mark_at, alike, apart, kin, few, settled, few_below, Marked}
 use Rattle.fitness.proofs.ReachLaws.{count-passed, count-reaches}
 use Rattle.fitness.proofs.TwinLaws.{apart-single}
@@ -47,6 +46,8 @@ module _ (marks : List ℕ) (i n : ℕ) where
   -- a place of which they leave a question is used
   pub settled-used : settled marks i n ≡ false → n ≢ 0
   settled-used h e = true≢false (settled-free e ∙ h)
+
+pub ruleset settling = (settled-free, settled-twice, settled-counted)
 
 mark-front : (w : Ident) → identity_mark w / 65536 ≡ chassis_mark w.port w.chassis
 unfolding identity_mark
@@ -155,14 +156,3 @@ module _ (s : State) where
     settled-beside marks h e =
         let z = both_true (apart marks k (at s k).len) (few marks k (at s k).len) e in
         (apart-single s marks h k l z.0, λ u. within-below s k l u (few-within s marks h k l z.1))
-
--- Ports and lengths alone tell the same
-
-module _ (t : Table) (b : List ℕ) {ports lengths : List ℕ} (e : ports ≡ t.port) (d : lengths ≡ t.length) where
-  pub numbers-marked : {marks : List ℕ} → Marked (state t b) marks → Marked (by_numbers ports lengths b) marks
-  unfolding at
-  numbers-marked h = rw (e, d) (record { long = h.long; right = h.right })
-
-  pub numbers-all : (n : ℕ) → all_below (fits_in (by_numbers ports lengths b)) n ≡ all_below (fits_in (state t b)) n
-  unfolding single within count_records is_of at
-  numbers-all n = rw (e, d) refl

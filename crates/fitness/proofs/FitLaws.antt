@@ -100,3 +100,6 @@ room_for s e own q l n =
     let k = free-tab places (placed s) a in
     let h = first-free-le s k.0 k.1 (unseen (at s k.0) k.2) in
     omega (arith, h, k.1)
+
+-- a length or shares that fail
+pub ruleset unfit = (unfit-length, unfit-shares)

@@ -15,11 +15,11 @@ use Rattle.octets.proofs.AddressLaws.{same_refl}
 use Rattle.whole.specs.Whole.{zeros, filled}
 use Rattle.whole.proofs.WholeLaws.{zeros-replicate, filled-front, filled-length}
 use Rattle.lldpdu.specs.Extent.{extent_of}
-use Rattle.lldpdu.specs.Outline.{outline_of}
-use Rattle.lldpdu.proofs.ExtentLaws.{good, outline-extent}
+use Rattle.lldpdu.specs.Outline.{outline_of, seconds_told}
+use Rattle.lldpdu.proofs.ExtentLaws.{good}
 use Rattle.lldpdu.proofs.Stable.{sized, extent-stable, outline-stable}
-use Rattle.walk.specs.declared.Extent.{Extent}
-use Rattle.walk.specs.declared.Extent.TheVariants.{Refused, Octets}
+use Rattle.std.specs.Prelude.{Ok, Err}
+use Rattle.walk.specs.Walk.{Extent}
 use Rattle.numbers.specs.Sizes.{ports}
 use Rattle.place.specs.State.{size, six_zeros, free, lldpdu_at, keep}
 use Rattle.marks.specs.PlaceFit.{exactly, whole, ok_free, ok_used, ok_place}
@@ -27,36 +27,36 @@ use Rattle.marks.specs.PlaceFit.{exactly, whole, ok_free, ok_used, ok_place}
 -- A whole LLDPDU, and the test for it part by part
 
 pub record Whole (l : List ℕ) (left : ℕ) : Type 0 where
-  pub extent : extent_of l ≡ Octets (length l)
+  pub extent : extent_of l ≡ Ok (length l)
   pub least : 1 ≤ left
-  pub most : left ≤ (outline_of l).seconds
+  pub most : left ≤ (seconds_told (outline_of l))
 
-exactly-octets : (x : Extent) (n : ℕ) → exactly x n ≡ true → x ≡ Octets n
-exactly-octets (Refused k) n e = let z : ◌≡◌ {A = Bool} false true = e in cc
-exactly-octets (Octets e) n q = ap Octets (eqb-true e n q)
+exactly-octets : (x : Extent) (n : ℕ) → exactly x n ≡ true → x ≡ Ok n
+exactly-octets (Err r) n e = let z : ◌≡◌ {A = Bool} false true = e in cc
+exactly-octets (Ok e) n q = ap Ok (eqb-true e n q)
 
 pub whole_parts : (l : List ℕ) (left : ℕ) → whole l left ≡ true → Whole l left
 unfolding whole
 whole_parts l left e =
-    let h = held (exactly (outline_of l).extent (length l) ∷ leb 1 left ∷ leb left (outline_of l).seconds ∷ []) e in
+    let h = held (exactly (extent_of l) (length l) ∷ leb 1 left ∷ leb left (seconds_told (outline_of l)) ∷ []) e in
     record {
-      extent = sym (outline-extent l) ∙ exactly-octets (outline_of l).extent (length l) h.0;
+      extent = exactly-octets (extent_of l) (length l) h.0;
       least = leb-true 1 left h.1.0;
-      most = leb-true left (outline_of l).seconds h.1.1.0;
+      most = leb-true left (seconds_told (outline_of l)) h.1.1.0;
     }
 
 pub parts_whole : (l : List ℕ) (left : ℕ) → Whole l left → whole l left ≡ true
 unfolding whole
 parts_whole l left w =
     rw (
-      outline-extent l ∙ w.extent,
+      w.extent,
       eq-eqb (length l) (length l) refl,
       le-leb 1 left w.least,
-      le-leb left (outline_of l).seconds w.most,
+      le-leb left (seconds_told (outline_of l)) w.most,
     )
 
 -- the first three TLVs alone have octets
-pub whole-some : (l : List ℕ) → extent_of l ≡ Octets (length l) → 1 ≤ length l
+pub whole-some : (l : List ℕ) → extent_of l ≡ Ok (length l) → 1 ≤ length l
 whole-some l e = omega (arith, (sized (good l (length l) e)).seconds)
 
 -- Free places
@@ -100,15 +100,15 @@ module _ (p n : ℕ) (sender l : List ℕ) where
 
 -- What is kept of octets d that begin with a valid LLDPDU of e octets
 
-module _ (d : List ℕ) (e : ℕ) (v : extent_of d ≡ Octets e) where
+module _ (d : List ℕ) (e : ℕ) (v : extent_of d ≡ Ok e) where
   abbrev l : List ℕ
   l = take e d
 
   pub kept-long : length l ≡ e
   kept-long = length-take-le e d (sized (good d e v)).whole-inside
 
-  pub kept-extent : extent_of l ≡ Octets (length l)
-  kept-extent = ap extent_of (sym (append-nil l)) ∙ extent-stable d [] e v ∙ ap Octets (sym kept-long)
+  pub kept-extent : extent_of l ≡ Ok (length l)
+  kept-extent = ap extent_of (sym (append-nil l)) ∙ extent-stable d [] e v ∙ ap Ok (sym kept-long)
 
   pub kept-outline : outline_of l ≡ outline_of d
   kept-outline = ap outline_of (sym (append-nil l)) ∙ outline-stable d [] e v

@@ -13,8 +13,8 @@ use lib.ListN.{length, set}
 use Rattle.tally.specs.Tab.{tab}
 use Rattle.octets.specs.Address.{is_group}
 use Rattle.lldpdu.specs.Extent.{extent_of}
-use Rattle.lldpdu.specs.Outline.{outline_of}
-use Rattle.walk.specs.declared.Extent.TheVariants.{Octets}
+use Rattle.lldpdu.specs.Outline.{outline_of, seconds_told}
+use Rattle.std.specs.Prelude.{Ok}
 use Rattle.rules.specs.Events.{Announcement, whose}
 use Rattle.rules.specs.Model as model
 use Rattle.rules.specs.Model.{Rec, recorded}
@@ -38,7 +38,7 @@ pub record Spoken (a : Announcement) : Type 0 where
   pub says : said a.sender a.octets ≡ a
   pub station : is_group a.sender ≡ false
   pub long : length a.octets ≤ size
-  pub extent : extent_of a.octets ≡ Octets (length a.octets)
+  pub extent : extent_of a.octets ≡ Ok (length a.octets)
 
 module _ (p : ℕ) (a : Announcement) (c : Spoken a) where
   pub keep-place : place_of (keep p a.seconds a.sender a.octets) ≡ some (recorded p a)
@@ -50,7 +50,7 @@ module _ (p : ℕ) (a : Announcement) (c : Spoken a) where
 
   pub keep-good : p < ports → a.seconds ≢ 0 → ok_place (keep p a.seconds a.sender a.octets) ≡ true
   keep-good l z =
-      let e : (outline_of a.octets).seconds ≡ a.seconds = ap (λ (b : Announcement). b.seconds) c.says in
+      let e : seconds_told (outline_of a.octets) ≡ a.seconds = ap (λ (b : Announcement). b.seconds) c.says in
       keep-ok p a.seconds a.sender a.octets l c.station c.long (record { extent = c.extent; least = omega arith; most = omega arith })
 
 -- Every place by itself

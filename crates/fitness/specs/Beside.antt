@@ -1,24 +1,18 @@
--- A place beside the others, as the code asks it: by ports and lengths alone, and by the records below it.
+-- A place beside the others, as the code asks it: by the records below it.
 -- They are for speed; whether a table is fit is said in Fit.antt, and that both come to the same is proved in proofs/ChassisLaws.antt.
-use Rattle.std.specs.Prelude.{ℕ, ◌<◌, ◌≡◌, ◌≢◌, Bool, List, [], length, ltb}
+use Rattle.std.specs.Prelude.{ℕ, ◌<◌, ◌≢◌, Bool, List, ltb}
 use Rattle.tally.specs.Counts.{count}
 use Rattle.rules.specs.Shares.{per_chassis, chassis_is}
 use Rattle.numbers.specs.Sizes.{places}
 use Rattle.marks.specs.Marks.{Marked}
-use Rattle.place.specs.State.{State, state, at, who_at, passes}
-
--- a table by its ports and lengths alone: no more of the numbers tells whose a record is
-abbrev pub by_numbers : List ℕ → List ℕ → List ℕ → State
-by_numbers ports lengths b = state (record { port = ports; seconds = []; length = lengths; sender = [] }) b
+use Rattle.place.specs.State.{State, at, who_at, passes}
 
 -- the shorter way to N5 (g): fewer below place k are of its chassis, on its port, than one may hold there
 unfoldable pub no_fourth : State → ℕ → Bool
 no_fourth s k = ltb (count (passes s (chassis_is (who_at (at s k)).port (who_at (at s k)).chassis)) k) per_chassis
 
--- what is known where place i is asked beside the others: each list has an entry for each place, the place is used, and each place has its mark
+-- what is known where place i is asked beside the others: the place is used, and each place has its mark
 pub record Asks (s : State) (marks : List ℕ) (i : ℕ) : Type 0 where
   pub below : i < places
-  pub ports_long : length s.table.port ≡ places
-  pub lengths_long : length s.table.length ≡ places
   pub marked : Marked s marks
   pub kept : (at s i).len ≢ 0

@@ -6,7 +6,7 @@ ghost use Rattle.tally.specs.Ranges.{all_below};
 ghost use Rattle.numbers.specs.Sizes.{places};
 ghost use Rattle.place.specs.State.{octets, state};
 ghost use Rattle.fitness.specs.Fit.{single, fits_in};
-ghost use Rattle.fitness.specs.Beside.{by_numbers, no_fourth, Asks};
+ghost use Rattle.fitness.specs.Beside.{no_fourth, Asks};
 ghost use Rattle.marks.specs.Marks.{settled, Marked};
 
 use crate::chassis::is_no_fourth;
@@ -15,6 +15,7 @@ use numbers::{PER_CHASSIS, PLACES, Table};
 
 // Of place i, of which so many octets are kept, the marks leave no question: its mark is its own, and no more agree with it in port and last chassis octet
 // than one chassis may hold. All marks are looked at, since a loop of a fixed length without a way out is done many at a time.
+#[tactic(auto, using(numbers::proofs::NumbersLaws::counting, crate::proofs::ChassisLaws::settling))]
 fn is_settled(marks: &[u32], i: usize, kept: u16) -> bool
     requires { (i < places) × (length marks.now ≡ places) }
     ensures { result ≡ settled marks.now i kept }
@@ -37,44 +38,24 @@ fn is_settled(marks: &[u32], i: usize, kept: u16) -> bool
     if alike > 1 {
         return false;
     }
-    kin <= PER_CHASSIS as u32
+    kin <= u32::from(PER_CHASSIS)
 }
 
-// Place i, which is used, has an identity of its own and is no fourth of its chassis. The whole table would be copied for each place.
-fn fits_in(ports: &[u8], lengths: &[u16], buffer: &[u8], marks: &[u32], i: usize) -> bool
-    requires { Asks (by_numbers ports.now lengths.now buffer.now) marks.now i }
-    ensures { result ≡ both (single (by_numbers ports.now lengths.now buffer.now) i) (no_fourth (by_numbers ports.now lengths.now buffer.now) i) }
+// Place i, which is used, has an identity of its own and is no fourth of its chassis.
+fn fits_in(t: &Table, buffer: &[u8], marks: &[u32], i: usize) -> bool
+    requires { Asks (state t.now buffer.now) marks.now i }
+    ensures { result ≡ both (single (state t.now buffer.now) i) (no_fourth (state t.now buffer.now) i) }
 {
-    if is_single(ports, lengths, buffer, marks, i) {
-        return is_no_fourth(ports, lengths, buffer, marks, i);
-    }
-    false
+    is_single(t, buffer, marks, i) && is_no_fourth(t, buffer, marks, i)
 }
 
-// The ports, and the lengths: each has an entry for each place.
-fn ports_of(t: Table) -> [u8; PLACES]
-    ensures { (result ≡ t.port) × (length t.port ≡ places) }
+pub(crate) fn all_fit_in(t: &Table, buffer: &[u8], marks: &[u32]) -> bool
+    requires { (length buffer.now ≡ octets) × Marked (state t.now buffer.now) marks.now }
+    ensures { result ≡ all_below (fits_in (state t.now buffer.now)) places }
 {
-    t.port
-}
-
-fn lengths_of(t: Table) -> [u16; PLACES]
-    ensures { (result ≡ t.length) × (length t.length ≡ places) }
-{
-    t.length
-}
-
-pub(crate) fn all_fit_in(t: Table, buffer: &[u8], marks: [u32; PLACES]) -> bool
-    requires { (length buffer.now ≡ octets) × Marked (state t buffer.now) marks }
-    ensures { result ≡ all_below (fits_in (state t buffer.now)) places }
-{
-    let ports = ports_of(t);
-    let lengths = lengths_of(t);
     for i in 0..PLACES {
-        if is_settled(&marks, i, lengths[i]) {} else {
-            if fits_in(&ports, &lengths, buffer, &marks, i) {} else {
-                return false;
-            }
+        if !is_settled(marks, i, t.length[i]) && !fits_in(t, buffer, marks, i) {
+            return false;
         }
     }
     true

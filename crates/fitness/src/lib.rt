@@ -15,24 +15,15 @@ use marks::marks_of;
 use numbers::{Table, shares_fit};
 use place::OCTETS;
 
-// The refusals of a table that is not fit, and of a port that there is not (R1, R2): what every call but Start judges first.
-pub const UNFIT: u8 = 1;
-
-pub const NO_PORT: u8 = 2;
-
+#[tactic(auto, using(crate::proofs::FitLaws::unfit))]
 pub fn is_fit(t: Table, buffer: &[u8]) -> bool
     ensures { result ≡ fit (state t buffer.now) }
 {
-    if buffer.len() != OCTETS {
+    if buffer.len() != OCTETS || !shares_fit(t) {
         return false;
     }
-    if shares_fit(t) {
-        let m = marks_of(t, buffer);
-        let fit = m.fit;
-        if fit {
-            let marks = m.marks;
-            return all_fit_in(t, buffer, marks);
-        }
-    }
-    false
+    let Some(marks) = marks_of(t, buffer) else {
+        return false;
+    };
+    all_fit_in(&t, buffer, &marks)
 }

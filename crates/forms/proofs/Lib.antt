@@ -1,5 +1,5 @@
--- The laws of forms: what each mark is, and one turn of the loop that fills a form in.
--- Sole is the theorem that two answers, and two lines, of one contract coincide; Examples has some forms filled in.
+-- The laws of forms: one turn of the loop that fills a form in, and its end.
+-- Sole is the theorem that two lines of one contract coincide; Examples has some forms filled in.
 pub mod FormLaws
 pub mod Sole
 pub mod Examples

@@ -3,11 +3,12 @@
 #![tactic(auto)]
 
 ghost use Rattle.std.specs.Prelude.{◌≡◌, drop, get_or};
-ghost use Rattle.output.specs.Output.{output_at, puts};
+ghost use Rattle.text.specs.Part.{part, text_of};
+ghost use Rattle.output.specs.Output.{Put};
 ghost use Rattle.forms.specs.Form.{stands_for, values_taken, forms_left, formed};
 
 use line::{put_chassis, put_hexes, put_joined, put_number};
-use output::put_octet;
+use output::Output;
 use text::{Part, text_of};
 
 // The marks, and the octet between two forms. None of the five can be printed as it stands.
@@ -25,123 +26,85 @@ const NEXT: u8 = b'|';
 fn value_at(values: &[usize], k: usize) -> usize
     ensures { result ≡ get_or values.now k 0 }
 {
-    if k < values.len() { values[k] } else { 0 }
+    values.get(k).copied().unwrap_or(0)
 }
 
 // The values behind the first n.
 fn values_behind(values: &[usize], n: usize) -> &[usize]
     ensures { result.now ≡ drop n values.now }
 {
-    if n < values.len() {
-        return &values[n..];
-    }
-    &values[0..0]
+    values.get(n..).unwrap_or(&[])
 }
 
 // How many values an octet of the forms takes, where so many forms are left.
+#[tactic(auto, unfolding(crate::specs::Form::values_taken))]
 fn values_taken(left: usize, mark: u8) -> usize
     ensures { result ≡ values_taken left mark }
 {
-    if left != 1 {
-        return 0;
+    match mark {
+        _ if left != 1 => 0,
+        NUMBER => 1,
+        HEX | JOINED => 2,
+        CHASSIS => 3,
+        _ => 0,
     }
-    if mark == NUMBER {
-        return 1;
-    }
-    if mark == HEX {
-        return 2;
-    }
-    if mark == JOINED {
-        return 2;
-    }
-    if mark == CHASSIS {
-        return 3;
-    }
-    0
 }
 
 // How many forms are left behind an octet, where so many were left at it.
+#[tactic(auto, unfolding(crate::specs::Form::forms_left))]
 fn forms_left(left: usize, mark: u8) -> usize
     ensures { result ≡ forms_left left mark }
 {
-    if mark != NEXT {
-        return left;
+    if mark == NEXT {
+        left.saturating_sub(1)
+    } else {
+        left
     }
-    if left == 0 {
-        return 0;
-    }
-    left - 1
+}
+
+fn part_of(text: &[u8], start: usize, len: usize) -> &[u8]
+    ensures { result.now ≡ text_of text.now (part start len) }
+{
+    text_of(text, Part { start, len })
 }
 
 // What an octet of the forms stands for, given the next three values.
+#[tactic(auto, unfolding(crate::specs::Form::stands_for, output::specs::Output::puts))]
 fn put_mark(
-    line: &mut [u8],
-    at: usize,
+    line: &mut Output,
     left: usize,
     mark: u8,
     first: usize,
     second: usize,
     third: usize,
     text: &[u8],
-) -> usize
-    ensures { output_at line.new result ≡ puts (stands_for left mark first second third text.now) (output_at line.old at) }
+)
+    ensures { Put (stands_for left mark first second third text.now) line.old line.new }
 {
     if left != 1 {
-        return at;
+        return;
     }
-    if mark == NEXT {
-        return at;
+    match mark {
+        NEXT => {}
+        NUMBER => put_number(line, first as u64),
+        HEX => put_hexes(line, part_of(text, first, second)),
+        JOINED => put_joined(line, part_of(text, first, second)),
+        CHASSIS => put_chassis(line, first, part_of(text, second, third)),
+        _ => line.put_octet(mark),
     }
-    if mark == NUMBER {
-        return put_number(line, at, first as u64);
-    }
-    let part = text_of(
-        text,
-        Part {
-            start: first,
-            len: second,
-        },
-    );
-    if mark == HEX {
-        return put_hexes(line, at, part);
-    }
-    if mark == JOINED {
-        return put_joined(line, at, part);
-    }
-    if mark == CHASSIS {
-        let octets = text_of(
-            text,
-            Part {
-                start: second,
-                len: third,
-            },
-        );
-        return put_chassis(line, at, first, octets);
-    }
-    put_octet(line, at, mark)
 }
 
 // One of several forms, counted from 1, which are divided by `|`. In a form `#` stands for a value in decimal, `%` for a
 // part of the text in hex, or a full stop where it has no octets, `~` for a part in hex joined by `-`, `@` for a chassis.
 // The start and the length of a part are two values; a chassis has its subtype before them. All else is put as it stands.
-pub fn put_form(
-    line: &mut [u8],
-    at: usize,
-    forms: &[u8],
-    which: usize,
-    values: &[usize],
-    text: &[u8],
-) -> usize
-    ensures { output_at line.new result ≡ puts (formed forms.now which values.now text.now) (output_at line.old at) }
+pub fn put_form(line: &mut Output, forms: &[u8], which: usize, values: &[usize], text: &[u8])
+    ensures { Put (formed forms.now which values.now text.now) line.old line.new }
 {
-    let mut end = at;
     let mut left = which;
     let mut rest = values;
-    for i in 0..forms.len() {
-        let mark = forms[i];
-        end = put_mark(
+    for &mark in forms {
+        put_mark(
             line,
-            end,
             left,
             mark,
             value_at(rest, 0),
@@ -149,10 +112,7 @@ pub fn put_form(
             value_at(rest, 2),
             text,
         );
-        // The result of a call is not laid where its argument lies, so it has a name of its own.
-        let behind = values_behind(rest, values_taken(left, mark));
-        rest = behind;
+        rest = values_behind(rest, values_taken(left, mark));
         left = forms_left(left, mark);
     }
-    end
 }

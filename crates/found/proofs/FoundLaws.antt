@@ -18,8 +18,9 @@ use Rattle.fields.proofs.FieldLaws.{Fits, field_fits}
 use Rattle.walk.specs.Walk.{head_of, step_of, walk}
 use Rattle.found.specs.Found.{marked_at, mark_of, noted, gather, survey_by}
 use Rattle.walk.proofs.WalkLaws.{walk_refused, walk_end, walk-next, next_fits}
-use Rattle.walk.specs.declared.Step.TheVariants as step
-use Rattle.walk.specs.declared.Extent.TheVariants.{Refused, Octets}
+use Rattle.walk.specs.declared.Step.TheVariants.{End, Next}
+use Rattle.refusal.specs.declared.Refusal.{Refusal}
+use Rattle.std.specs.Prelude.{Ok, Err}
 use Rattle.found.specs.declared.Mark.{Mark}
 use Rattle.found.specs.declared.Found.{Found}
 
@@ -63,17 +64,17 @@ module _ (f : Found) (start len : ℕ) {x : Field} where
 -- The loop
 
 module _ (s : List ℕ) (at : ℕ) (f : Found) where
-  pub survey-refused : {n : ℕ} → step_of (head_of (drop at s)) at ≡ step.Refused n
-      → survey_by f (walk (drop at s) 0 at) ≡ record { extent = Refused n; found = f }
+  pub survey-refused : {r : Refusal} → step_of (head_of (drop at s)) at ≡ Err r
+      → survey_by f (walk (drop at s) 0 at) ≡ record { extent = Err r; found = f }
   unfolding survey_by gather
   survey-refused e = ap (survey_by f) (walk_refused s at e)
 
-  pub survey-end : {end : ℕ} → step_of (head_of (drop at s)) at ≡ step.End end
-      → survey_by f (walk (drop at s) 0 at) ≡ record { extent = Octets end; found = f }
+  pub survey-end : {end : ℕ} → step_of (head_of (drop at s)) at ≡ Ok (End end)
+      → survey_by f (walk (drop at s) 0 at) ≡ record { extent = Ok end; found = f }
   unfolding survey_by gather
   survey-end e = ap (survey_by f) (walk_end s at e)
 
-  module _ {kind start len : ℕ} (e : step_of (head_of (drop at s)) at ≡ step.Next kind start len) where
+  module _ {kind start len : ℕ} (e : step_of (head_of (drop at s)) at ≡ Ok (Next kind start len)) where
     pub survey-next : survey_by f (walk (drop at s) 0 at)
         ≡ survey_by (noted f (field_of kind (take len (drop start s))) start len) (walk (drop (start + len) s) 0 (start + len))
     unfolding survey_by gather

@@ -23,7 +23,9 @@ use Rattle.found.specs.Found.{unmarked, nothing, marked_at, mark_of, noted, gath
 use Rattle.found.specs.Contents.{on_field, contents, formed, well_formed, first}
 use Rattle.walk.proofs.WalkLaws.{whole, stepped}
 use Rattle.walk.specs.declared.Step.{Step}
-use Rattle.walk.specs.declared.Step.TheVariants as step
+use Rattle.walk.specs.declared.Step.TheVariants.{End, Next}
+use Rattle.refusal.specs.declared.Refusal.{Refusal}
+use Rattle.std.specs.Prelude.{Result, Ok, Err}
 use Rattle.found.specs.declared.Mark.{Mark}
 use Rattle.found.specs.declared.Found.{Found}
 
@@ -38,10 +40,10 @@ AllIn s [] = Unit {0}
 AllIn s (p ∷ ps) = In s p × AllIn s ps
 
 step_in : (s r : List ℕ) (hi lo at : ℕ) (more : Walked) → drop at s ≡ hi ∷ lo ∷ r → AllIn s more.tlvs
-    → (x : Step) → step_of (head_of (hi ∷ lo ∷ r)) at ≡ x → AllIn s (on_step x (take (length_in hi lo) r) more).tlvs
-step_in s r hi lo at more d ih (step.Refused n) e = tt
-step_in s r hi lo at more d ih (step.End end) e = tt
-step_in s r hi lo at more d ih (step.Next kind start len) e =
+    → (x : Result Step Refusal) → step_of (head_of (hi ∷ lo ∷ r)) at ≡ x → AllIn s (on_step x (take (length_in hi lo) r) more).tlvs
+step_in s r hi lo at more d ih (Err why) e = tt
+step_in s r hi lo at more d ih (Ok (End end)) e = tt
+step_in s r hi lo at more d ih (Ok (Next kind start len)) e =
     let t = stepped (head_of (hi ∷ lo ∷ r)) at e in
     let w = whole (hi ∷ lo ∷ r) kind len t.head in
     let n = length_in hi lo in

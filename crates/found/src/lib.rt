@@ -8,8 +8,9 @@ ghost use Rattle.walk.specs.Walk.{walk};
 ghost use Rattle.found.specs.Found.{nothing, part_at, marked_at, survey_by, htip_in};
 
 use fields::{Field, field_of, is_unread};
+use refusal::Refusal;
 use text::{Part, Parts, empty_parts, with_part};
-use walk::{Extent, Step, step_at};
+use walk::{Step, step_at};
 
 // What was met of a topic: how often, up to twice, and where its first content lies. The count is as wide as the rest, since
 // a gap behind a narrow one is copied octet by octet.
@@ -31,7 +32,7 @@ pub struct Found {
 // The walk behind the first three TLVs: where it ends or why it is refused, and what was found on the way.
 #[derive(Clone, Copy)]
 pub struct Survey {
-    pub extent: Extent,
+    pub extent: Result<usize, Refusal>,
     pub found: Found,
 }
 
@@ -46,20 +47,19 @@ pub fn part_at(m: Mark) -> Part
 }
 
 // The first stays; that there was another is known (A2, H1).
-fn marked(m: Mark, start: usize, len: usize) -> Mark
-    ensures { result ≡ marked_at m start len }
+#[tactic(auto, unfolding(crate::specs::Found::marked_at))]
+fn marked(m: Mark, first: Part) -> Mark
+    ensures { result ≡ marked_at m first.start first.len }
 {
-    let times = m.times;
-    if times == 0 {
-        return Mark {
+    if m.times == 0 {
+        Mark {
             times: 1,
-            start,
-            len,
-        };
+            start: first.start,
+            len: first.len,
+        }
+    } else {
+        Mark { times: 2, ..m }
     }
-    let mut again = m;
-    again.times = 2;
-    again
 }
 
 fn nothing_found() -> Found
@@ -71,8 +71,8 @@ fn nothing_found() -> Found
             start: 0,
             len: 0,
         }; fields::TOPICS],
-        malformed: false,
         management: empty_parts(),
+        malformed: false,
     }
 }
 
@@ -81,9 +81,10 @@ fn said(kind: u8, part: &[u8]) -> Field
     ensures { result ≡ field_of kind part.now }
 {
     if is_unread(kind, part) {
-        return Field::Skipped;
+        Field::Skipped
+    } else {
+        field_of(kind, part)
     }
-    field_of(kind, part)
 }
 
 // The TLVs from a place on, to End. What was found is changed where it stands, since to hand it on costs more than to read a TLV.
@@ -92,63 +93,41 @@ pub fn gathered(s: &[u8], from: usize) -> Survey
 {
     let mut at = from;
     let mut found = nothing_found();
-    loop {
+    let extent = loop {
         match step_at(s, at) {
-            Step::Refused(n) => {
-                let extent = Extent::Refused(n);
-                return Survey { extent, found };
-            }
-            Step::End(end) => {
-                let extent = Extent::Octets(end);
-                return Survey { extent, found };
-            }
-            Step::Next { kind, start, len } => {
-                let end = start + len;
-                at = end;
-                match said(kind, &s[start..end]) {
-                    Field::Skipped => {
-                        continue;
-                    }
-                    Field::Malformed => {
-                        found.malformed = true;
-                        continue;
-                    }
+            Err(r) => break Err(r),
+            Ok(Step::End(end)) => break Ok(end),
+            Ok(Step::Next { kind, start, len }) => {
+                at = start + len;
+                match said(kind, &s[start..at]) {
+                    Field::Skipped => {}
+                    Field::Malformed => found.malformed = true,
                     Field::Says { topic, skip } => {
-                        let b = start + skip;
-                        let n = len - skip;
+                        let part = Part {
+                            start: start + skip,
+                            len: len - skip,
+                        };
                         if topic == fields::MANAGEMENT {
-                            let kept = found.management;
-                            found.management = with_part(kept, Part { start: b, len: n });
-                            continue;
+                            found.management = with_part(found.management, part);
+                        } else {
+                            found.marks[topic] = marked(found.marks[topic], part);
                         }
-                        let m = marked(found.marks[topic], b, n);
-                        found.marks[topic] = m;
                     }
                 }
             }
         }
-    }
+    };
+    Survey { extent, found }
 }
 
 // IDs 1 and 4 once, 2 and 3 at most once, and nothing malformed (H1).
+#[tactic(auto, unfolding(crate::specs::Found::htip_in))]
 pub fn is_htip(found: Found) -> bool
     ensures { result ≡ htip_in found }
 {
-    if found.malformed {
-        return false;
-    }
-    let category = found.marks[fields::CATEGORY];
-    if category.times != 1 {
-        return false;
-    }
-    let number = found.marks[fields::MODEL_NUMBER];
-    if number.times != 1 {
-        return false;
-    }
-    let manufacturer = found.marks[fields::MANUFACTURER];
-    if manufacturer.times > 1 {
-        return false;
-    }
-    let model = found.marks[fields::MODEL_NAME];
-    model.times <= 1
+    !found.malformed
+        && found.marks[fields::CATEGORY].times == 1
+        && found.marks[fields::MODEL_NUMBER].times == 1
+        && found.marks[fields::MANUFACTURER].times <= 1
+        && found.marks[fields::MODEL_NAME].times <= 1
 }

@@ -1,41 +1,21 @@
--- What a change makes of a place: its fate, test by test (N8, N9), and the place that it leaves.
--- Each return of the code that tells a fate is one line here; aged-by and lost-by serve the crates above.
+-- What a change makes of a place (N8, N9): the place that its fate leaves.
+-- aged-by and lost-by serve the crates above.
 use Prim.Native.Nat.{ℕ, ◌-◌, ◌≤◌, ◌<◌}
 use mathlib.Core.Path.{◌≡◌, refl, sym, ap, ◌∙◌}
 use mathlib.Core.Logic.{◌≢◌}
 use mathlib.Core.Bool.{Bool, true, false}
-use borrow.Author.Tests.{eqb-true, eqb-false, eq-eqb, ne_eqb, leb-true, leb-false, le-leb, lt-leb}
+use borrow.Author.Tests.{eqb-true, eqb-false, leb-true, leb-false}
 use lib.Dec.{leb, eqb}
+use Rattle.std.specs.Prelude.{Option, Some, None}
 use Rattle.tally.specs.Tests.{pick}
 use Rattle.place.specs.State.{Place, free}
 use Rattle.freeing.specs.Changes.{fate_of, met, changed, aged, lost}
 use Rattle.freeing.specs.declared.change.Change.{Change}
-use Rattle.freeing.specs.declared.change.Change.TheVariants.{Age, Lose}
-use Rattle.freeing.specs.declared.change.Fate.{Fate}
-use Rattle.freeing.specs.declared.change.Fate.TheVariants.{Goes, Stays}
-
-module _ (n p left : ℕ) where
-  pub free_stays : (c : Change) → n ≡ 0 → Stays left ≡ fate_of c n p left
-  free_stays (Age s) e = sym (rw (eq-eqb n 0 e))
-  free_stays (Lose q) e = sym (rw (eq-eqb n 0 e))
-
-  module _ {c : Change} (u : n ≢ 0) where
-    pub old-goes : {s : ℕ} → c ≡ Age s → left ≤ s → Goes ≡ fate_of c n p left
-    old-goes {s} e h = sym (ap (λ (x : Change). fate_of x n p left) e ∙ rw (ne_eqb n 0 u, le-leb left s h))
-
-    pub younger-stays : {s : ℕ} → c ≡ Age s → s < left → Stays (left - s) ≡ fate_of c n p left
-    younger-stays {s} e h = sym (ap (λ (x : Change). fate_of x n p left) e ∙ rw (ne_eqb n 0 u, lt-leb left s h))
-
-    pub lost-goes : {q : ℕ} → c ≡ Lose q → p ≡ q → Goes ≡ fate_of c n p left
-    lost-goes {q} e h = sym (ap (λ (x : Change). fate_of x n p left) e ∙ rw (ne_eqb n 0 u, eq-eqb p q h))
-
-    pub other-stays : {q : ℕ} → c ≡ Lose q → p ≢ q → Stays left ≡ fate_of c n p left
-    other-stays {q} e h = sym (ap (λ (x : Change). fate_of x n p left) e ∙ rw (ne_eqb n 0 u, ne_eqb p q h))
 
 -- a place meets its fate
-pub changed-is : (c : Change) (x : Place) {f g : Fate} → f ≡ fate_of c x.len x.port x.seconds → f ≡ g → changed c x ≡ met g x
+pub changed-is : (c : Change) (x : Place) {f g : Option ℕ} → f ≡ fate_of c x.len x.port x.seconds → f ≡ g → changed c x ≡ met g x
 unfolding changed
-changed-is c x e d = ap (λ (f : Fate). met f x) (sym e ∙ d)
+changed-is c x e d = ap (λ (f : Option ℕ). met f x) (sym e ∙ d)
 
 -- whatever holds of each thing that can come of a place holds of what does
 
@@ -47,7 +27,7 @@ module _ (P : Place → Type 0) (x : Place) (unused : x.len ≡ 0 → P x) where
   unfolding changed
   aged-by n gone left = go (eqb x.len 0) refl (leb x.seconds n) refl
     where
-      go : (b : Bool) → eqb x.len 0 ≡ b → (c : Bool) → leb x.seconds n ≡ c → P (met (pick b (Stays x.seconds) (pick c Goes (Stays (x.seconds - n)))) x)
+      go : (b : Bool) → eqb x.len 0 ≡ b → (c : Bool) → leb x.seconds n ≡ c → P (met (pick b (Some x.seconds) (pick c None (Some (x.seconds - n)))) x)
       go true d c e = unused (eqb-true x.len 0 d)
       go false d true e = gone (eqb-false x.len 0 d) (leb-true x.seconds n e)
       go false d false e = left (eqb-false x.len 0 d) (leb-false x.seconds n e)
@@ -56,7 +36,7 @@ module _ (P : Place → Type 0) (x : Place) (unused : x.len ≡ 0 → P x) where
   unfolding changed
   lost-by p gone other = go (eqb x.len 0) refl (eqb x.port p) refl
     where
-      go : (b : Bool) → eqb x.len 0 ≡ b → (c : Bool) → eqb x.port p ≡ c → P (met (pick b (Stays x.seconds) (pick c Goes (Stays x.seconds))) x)
+      go : (b : Bool) → eqb x.len 0 ≡ b → (c : Bool) → eqb x.port p ≡ c → P (met (pick b (Some x.seconds) (pick c None (Some x.seconds))) x)
       go true d c e = unused (eqb-true x.len 0 d)
       go false d true e = gone (eqb-false x.len 0 d) (eqb-true x.port p e)
       go false d false e = other (eqb-false x.len 0 d) (eqb-false x.port p e)

@@ -9,6 +9,7 @@ use borrow.Author.Tests.{eqb-true, leb-true}
 use lib.Dec.{eqb}
 use lib.ListN.{length, take, drop, set, replicate, length-drop, take-append-drop, replicate-append-replicate}
 use lib.Seq.{drop-append-le, drop-drop, length-take-le}
+use Rattle.std.specs.Prelude.{Option, Some, None}
 use Rattle.tally.specs.Tests.{pick}
 use Rattle.tally.proofs.TestsLaws.{held}
 use Rattle.whole.specs.Whole.{zeros}
@@ -22,8 +23,6 @@ use Rattle.fitness.proofs.FitLaws.{fit_parts}
 use Rattle.fitness.proofs.KeepLaws.{free-long}
 use Rattle.freeing.specs.Changes.{fate_of, met, changed}
 use Rattle.freeing.specs.declared.change.Change.{Change}
-use Rattle.freeing.specs.declared.change.Fate.{Fate}
-use Rattle.freeing.specs.declared.change.Fate.TheVariants.{Goes, Stays}
 
 -- A place that is fit by itself
 
@@ -87,9 +86,9 @@ pub changed-long : (c : Change) → KeepsLong (changed c)
 unfolding changed
 changed-long c x e = go (fate_of c x.len x.port x.seconds)
   where
-    go : (f : Fate) → length (met f x).body ≡ size
-    go Goes = free-long
-    go (Stays left) = e
+    go : (f : Option ℕ) → length (met f x).body ≡ size
+    go None = free-long
+    go (Some left) = e
 
 pub unreached : (c : Change) (s : State) → Sized places s → fit s ≡ true → (i : ℕ) → i < places → {r : State} → r ≡ each (changed c) i s → ok_place (at r i) ≡ true
 unreached c s z f i l e =

@@ -8,10 +8,11 @@ ghost use Rattle.freeing.specs.Changes.{fate_of, changed};
 ghost use Rattle.fitness.specs.Refusals.{refusal_when_unfit, refusal_on_port};
 ghost use Rattle.freeing.specs.Calls.{Does, passed, link_lost};
 
-use crate::{Answer, Outcome, refuse};
-use fitness::{NO_PORT, UNFIT, is_fit};
+use crate::{Outcome, refuse};
+use fitness::is_fit;
 use numbers::{PLACES, PORTS, Sender, Table};
 use place::SIZE;
+use refusal::Refusal;
 use whole::clear;
 
 #[derive(Clone, Copy)]
@@ -20,33 +21,18 @@ pub(crate) enum Change {
     Lose(u8),
 }
 
-// What becomes of a place: it is freed, or it stays with so many seconds left.
-#[derive(Clone, Copy)]
-enum Fate {
-    Goes,
-    Stays(u16),
-}
-
-// By the place's own numbers. A free place stays as it is.
-fn fate_of(change: Change, n: u16, p: u8, left: u16) -> Fate
+// What becomes of a place, by its own numbers: it stays with so many seconds left, or goes. A free place stays as it is.
+fn fate_of(change: Change, n: u16, p: u8, left: u16) -> Option<u16>
     ensures { result ≡ fate_of change n p left }
 {
     if n == 0 {
-        return Fate::Stays(left);
+        return Some(left);
     }
     match change {
-        Change::Age(seconds) => {
-            if left <= seconds {
-                return Fate::Goes;
-            }
-            Fate::Stays(left - seconds)
-        }
-        Change::Lose(q) => {
-            if p == q {
-                return Fate::Goes;
-            }
-            Fate::Stays(left)
-        }
+        Change::Age(seconds) if left <= seconds => None,
+        Change::Age(seconds) => Some(left - seconds),
+        Change::Lose(q) if p == q => None,
+        Change::Lose(_) => Some(left),
     }
 }
 
@@ -61,6 +47,7 @@ fn clear_record(buffer: &mut [u8], i: usize, kept: u16)
 }
 
 // A place that goes is freed here: a call that takes the table and gives it back would copy it each time.
+// Places are counted, since a place is an entry in each of four arrays and a part of the buffer.
 fn change_all(t: Table, buffer: &mut [u8], change: Change) -> Table
     requires { fit (state t buffer.old) ≡ true }
     ensures { state result buffer.new ≡ each (changed change) places (state t buffer.old) }
@@ -69,15 +56,13 @@ fn change_all(t: Table, buffer: &mut [u8], change: Change) -> Table
     let nobody = Sender { octets: [0; 6] };
     for i in 0..PLACES {
         match fate_of(change, u.length[i], u.port[i], u.seconds[i]) {
-            Fate::Goes => {
+            Some(left) => u.seconds[i] = left,
+            None => {
                 clear_record(buffer, i, u.length[i]);
                 u.port[i] = 0;
                 u.seconds[i] = 0;
                 u.length[i] = 0;
                 u.sender[i] = nobody;
-            }
-            Fate::Stays(left) => {
-                u.seconds[i] = left;
             }
         }
     }
@@ -87,28 +72,26 @@ fn change_all(t: Table, buffer: &mut [u8], change: Change) -> Table
 pub fn seconds_passed(t: Table, buffer: &mut [u8], seconds: u16) -> Outcome
     ensures { Does result buffer.new (passed seconds (state t buffer.old)) (refusal_when_unfit (state t buffer.old)) }
 {
-    if is_fit(t, buffer) {
-        let u = change_all(t, buffer, Change::Age(seconds));
-        return Outcome {
-            table: u,
-            answer: Answer::Done,
-        };
+    if !is_fit(t, buffer) {
+        return refuse(t, Refusal::Unfit);
     }
-    refuse(t, UNFIT)
+    Outcome {
+        table: change_all(t, buffer, Change::Age(seconds)),
+        answer: Ok(()),
+    }
 }
 
 pub fn link_lost(t: Table, buffer: &mut [u8], port: usize) -> Outcome
     ensures { Does result buffer.new (link_lost port (state t buffer.old)) (refusal_on_port port (state t buffer.old)) }
 {
-    if is_fit(t, buffer) {
-        if port < PORTS {
-            let u = change_all(t, buffer, Change::Lose(port as u8));
-            return Outcome {
-                table: u,
-                answer: Answer::Done,
-            };
-        }
-        return refuse(t, NO_PORT);
+    if !is_fit(t, buffer) {
+        return refuse(t, Refusal::Unfit);
     }
-    refuse(t, UNFIT)
+    if port >= PORTS {
+        return refuse(t, Refusal::NoPort);
+    }
+    Outcome {
+        table: change_all(t, buffer, Change::Lose(port as u8)),
+        answer: Ok(()),
+    }
 }

@@ -9,30 +9,24 @@ ghost use Rattle.freeing.specs.Calls.{refused_outcome, Does, started, refusal_at
 mod change;
 
 pub use change::{link_lost, seconds_passed};
-use fitness::UNFIT;
 use numbers::{PLACES, Sender, Table};
 use place::OCTETS;
+use refusal::Refusal;
 use whole::clear;
-
-#[derive(Clone, Copy)]
-pub enum Answer {
-    Done,
-    Refused(u8),
-}
 
 #[derive(Clone, Copy)]
 pub struct Outcome {
     pub table: Table,
-    pub answer: Answer,
+    pub answer: Result<(), Refusal>,
 }
 
-// A refusal returns its number, and the table as it was (Q2).
-pub(crate) fn refuse(t: Table, n: u8) -> Outcome
-    ensures { result ≡ refused_outcome t n }
+// A refusal says why, and gives the table as it was (Q2).
+pub(crate) fn refuse(t: Table, why: Refusal) -> Outcome
+    ensures { result ≡ refused_outcome t why }
 {
     Outcome {
         table: t,
-        answer: Answer::Refused(n),
+        answer: Err(why),
     }
 }
 
@@ -52,11 +46,11 @@ pub fn start(t: Table, buffer: &mut [u8]) -> Outcome
     ensures { Does result buffer.new (started (state t buffer.old)) (refusal_at_start (state t buffer.old)) }
 {
     if buffer.len() != OCTETS {
-        return refuse(t, UNFIT);
+        return refuse(t, Refusal::Unfit);
     }
     clear(buffer);
     Outcome {
         table: empty_table(),
-        answer: Answer::Done,
+        answer: Ok(()),
     }
 }

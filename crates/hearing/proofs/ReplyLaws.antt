@@ -9,52 +9,55 @@ use native.Mathlib.Omega.{arith}
 use borrow.Author.Tests.{eq-eqb, ne_eqb, ltb-true, lt-ltb, le-ltb}
 use lib.ListN.{length, take, drop, length-take, length-drop}
 use lib.Dec.{eqb, ltb, leb}
+use Rattle.std.specs.Prelude.{Option, Result, Ok, Err, Some, None}
 use Rattle.tally.specs.Tests.{pick, both, all}
 use Rattle.tally.specs.Due.{first_due}
 use Rattle.tally.proofs.TestsLaws.{not-below, below-or-at}
-use Rattle.lldpdu.specs.Extent.{octets_in, extent_of}
-use Rattle.lldpdu.specs.Outline.{refused_outline, outline_at, outline_of}
+use Rattle.refusal.specs.Refusal.{refusal_of}
+use Rattle.refusal.specs.declared.Refusal.{Refusal}
+use Rattle.refusal.specs.declared.Refusal.TheVariants.{Unfit, NoPort, NoFrame}
+use Rattle.walk.specs.Walk.{Extent}
+use Rattle.lldpdu.specs.Extent.{extent_of}
+use Rattle.lldpdu.specs.Outline.{outline_at, outline_of}
 use Rattle.ids.specs.Id.{id_meant}
-use Rattle.walk.specs.declared.Extent.{Extent}
-use Rattle.walk.specs.declared.Extent.TheVariants as extent-is
 use Rattle.lldpdu.specs.declared.outline.Outline.{Outline}
-use Rattle.lldpdu.proofs.ExtentLaws.{not-both, good, outline-extent}
+use Rattle.lldpdu.proofs.ExtentLaws.{good}
 use Rattle.lldpdu.proofs.Few.{Few, extent-few}
 use Rattle.lldpdu.proofs.RowsLaws.{due_in, extent-rows}
 use Rattle.lldpdu.proofs.Stable.{sized}
 use Rattle.reader.specs.Frame.{source_of, frame_ok, on_frame, frame_rows}
-use Rattle.reader.proofs.FrameLaws.{frame-size, on-good, on-bad}
+use Rattle.reader.proofs.FrameLaws.{frame-size, on-good}
 use Rattle.rules.specs.Identity.{Ident}
 use Rattle.rules.specs.Events.{Announcement, Heard, unread, says, whose}
 use Rattle.rules.specs.Shares.{sure, most, per_chassis, beyond, chassis_is, share, room}
-use Rattle.rules.specs.Answers.{refusal_of_reply}
+use Rattle.rules.specs.Answers.{Answered}
 use Rattle.rules.specs.declared.Room.{Room}
 use Rattle.rules.specs.declared.Room.TheVariants.{Enough, Loud, Full, Taken}
-use Rattle.rules.specs.declared.Reply.{Reply}
-use Rattle.rules.specs.declared.Reply.TheVariants.{Refreshed, Gone, UnknownGoodbye, Refused}
+use Rattle.rules.specs.declared.Reply.TheVariants.{Refreshed, Gone, UnknownGoodbye}
 use Rattle.numbers.specs.Sizes.{ports, places, common}
 use Rattle.numbers.specs.Numbers.{holds}
 use Rattle.numbers.specs.declared.Table.{Table}
-use Rattle.place.specs.State.{Place, State, size, state, at, put, free, keep, ident, whose_in, said, find, count_records}
+use Rattle.place.specs.State.{Place, State, size, state, at, put, free, keep, ident, whose_in, said, find, place_found, count_records}
 use Rattle.fitness.specs.Fit.{fit}
-use Rattle.hearing.specs.Frame.{heard_of, heard_in, Told, reception, told, telling, kept, heard_at, heard_by_room, heard_new, heard_saying, on_heard, heard, is_new, room_rows, refusal_on_frame, Hears}
+use Rattle.hearing.specs.Frame.{extent_on, heard_of, heard_in, Told, reception, told, telling, kept, heard_at, heard_by_room, heard_new, heard_saying, on_heard, heard, is_new, room_rows, refusal_on_frame, Hears}
 use Rattle.hearing.specs.declared.Reception.{Reception}
+use Rattle.place.proofs.FoundLaws.{found-some, found-none}
 use Rattle.place.proofs.WhoseLaws.{outline-ident}
 use Rattle.fitness.proofs.FitLaws.{fit_parts}
 use Rattle.fitness.proofs.KeepLaws.{kept-outline}
 
 -- What each return tells
 
-pub tells : {o : Reception} {t : Table} {a : Reply} {b : List ℕ} {s : State} → o ≡ reception t a → state t b ≡ s → told o b ≡ telling a s
+pub tells : {o : Reception} {t : Table} {a : Answered} {b : List ℕ} {s : State} → o ≡ reception t a → state t b ≡ s → told o b ≡ telling a s
 tells {a = a} {b = b} e d = ap (λ (x : Reception). told x b) e ∙ ap (telling a) d
 
 -- a known identity
 module _ (k n : ℕ) (x : Place) (s : State) where
-  pub at-gone : n ≡ 0 → telling Gone (put s k free) ≡ heard_at k n x s
+  pub at-gone : n ≡ 0 → telling (Ok Gone) (put s k free) ≡ heard_at k n x s
   unfolding heard_at
   at-gone e = rw (eq-eqb n 0 e)
 
-  pub at-kept : n ≢ 0 → telling Refreshed (put s k x) ≡ heard_at k n x s
+  pub at-kept : n ≢ 0 → telling (Ok Refreshed) (put s k x) ≡ heard_at k n x s
   unfolding heard_at
   at-kept u = rw (ne_eqb n 0 u)
 
@@ -64,7 +67,7 @@ unfolding room count_records holds at
 room-share s w = refl
 
 module _ (n : ℕ) (w : Ident) (x : Place) (s : State) where
-  pub new-goodbye : n ≡ 0 → telling UnknownGoodbye s ≡ heard_new n w x s
+  pub new-goodbye : n ≡ 0 → telling (Ok UnknownGoodbye) s ≡ heard_new n w x s
   unfolding heard_new
   new-goodbye e = rw (eq-eqb n 0 e)
 
@@ -73,71 +76,94 @@ module _ (n : ℕ) (w : Ident) (x : Place) (s : State) where
   unfolding heard_new
   new-room u e d = rw (ne_eqb n 0 u, room-share s w, sym e ∙ d)
 
--- an extent that is no refusal says so itself
-pub is-octets : {x : Extent} {e : ℕ} → x ≡ extent-is.Octets e → x ≡ extent-is.Octets (octets_in x)
-is-octets q = q ∙ ap (λ (y : Extent). extent-is.Octets (octets_in y)) (sym q)
-
 -- what the code has of a valid LLDPDU l, by its outline
-module _ (p : ℕ) (sender l : List ℕ) (s : State) {o : Outline} (e : o ≡ outline_of l) {n : ℕ} (v : o.extent ≡ extent-is.Octets n) where
-  -- k is the place that the code found for its identity
-  module _ {k : ℕ} (q : k ≡ find s (ident p (id_meant l o.chassis) (id_meant l o.port))) where
-    found : k ≡ find s (whose_in p l)
-    found = q ∙ ap (find s) (outline-ident l e v p)
+module _ (p : ℕ) (sender l : List ℕ) (s : State) {o : Outline} (e : outline_of l ≡ Ok o) where
+  -- and of the place that it found for the identity
+  module _ {x : Option ℕ} (q : x ≡ place_found (find s (ident p (id_meant l o.chassis) (id_meant l o.port)))) where
+    found : x ≡ place_found (find s (whose_in p l))
+    found = q ∙ ap (λ (w : Ident). place_found (find s w)) (outline-ident l e p)
 
-    pub saying-known : k < places → heard_at k o.seconds (keep p o.seconds sender l) s ≡ heard_saying p (said sender l) s
-    unfolding heard_saying
-    saying-known h = rw (← found, lt-ltb k places h) (ap (λ (x : Outline). heard_at k x.seconds (keep p x.seconds sender l) s) e)
+    pub known-below : {k : ℕ} → x ≡ Some k → k < places
+    known-below v = (found-some (find s (whose_in p l)) (sym found ∙ v)).1
 
-    pub saying-new : places ≤ k → heard_new o.seconds (whose_in p l) (keep p o.seconds sender l) s ≡ heard_saying p (said sender l) s
+    pub saying-known : {k : ℕ} → x ≡ Some k → heard_at k o.seconds (keep p o.seconds sender l) s ≡ heard_saying p (said sender l) s
     unfolding heard_saying
-    saying-new h = rw (← found, le-ltb k places h) (ap (λ (x : Outline). heard_new x.seconds (whose_in p l) (keep p x.seconds sender l) s) e)
+    saying-known {k} v =
+        let h = found-some (find s (whose_in p l)) (sym found ∙ v) in
+        rw (h.0, lt-ltb k places h.1, e)
+
+    pub saying-new : x ≡ None → heard_new o.seconds (whose_in p l) (keep p o.seconds sender l) s ≡ heard_saying p (said sender l) s
+    unfolding heard_saying
+    saying-new v = rw (le-ltb (find s (whose_in p l)) places (found-none (find s (whose_in p l)) (sym found ∙ v)), e)
 
 -- The LLDPDU of a frame, by the outline that the reader gives
 
-module _ (f : List ℕ) {o : Outline} (i : o ≡ on_frame (refused_outline 3) outline_of f) where
-  heard-in : {x : Extent} → o.extent ≡ x → heard_in x (source_of f) (drop 14 f) ≡ heard_of f
+-- the outline of a frame is that of its extent
+framed-outline : (f : List ℕ) → on_frame (Err NoFrame) outline_of f ≡ outline_at (extent_on f) (drop 14 f)
+unfolding on_frame outline_of
+framed-outline f = go (frame_ok f)
+  where
+    go : (b : Bool) → pick b (outline_at (extent_of (drop 14 f)) (drop 14 f)) (Err NoFrame) ≡ outline_at (pick b (extent_of (drop 14 f)) (Err NoFrame)) (drop 14 f)
+    go true = refl
+    go false = refl
+
+module _ (f : List ℕ) {x : Result Outline Refusal} (i : x ≡ on_frame (Err NoFrame) outline_of f) where
+  -- a frame that the reader refuses
+  pub unread-tells : (p : ℕ) (s : State) {r : Refusal} → x ≡ Err r → telling (Err r) s ≡ on_heard (heard_of f) p s
   unfolding heard_of
-  heard-in e = ap (λ (x : Extent). heard_in x (source_of f) (drop 14 f)) (sym e ∙ ap (λ (x : Outline). x.extent) i)
+  unread-tells p s {r} e = go (extent_on f) (sym e ∙ i ∙ framed-outline f)
+    where
+      go : (y : Extent) → Err r ≡ outline_at y (drop 14 f) → telling (Err r) s ≡ on_heard (heard_in y (source_of f) (drop 14 f)) p s
+      go (Err k) q = let h : r ≡ k = cc in ap (λ (z : Refusal). telling (Err z) s) h
+      go (Ok n) q = cc
 
-  pub unread-tells : (p : ℕ) (s : State) {n : ℕ} → o.extent ≡ extent-is.Refused n → telling (Refused n) s ≡ on_heard (heard_of f) p s
-  unread-tells p s e = ap (λ (x : Heard). on_heard x p s) (heard-in e)
-
-  module _ {e : ℕ} (v : o.extent ≡ extent-is.Octets e) where
+  -- one that it reads
+  module _ {o : Outline} (v : x ≡ Ok o) where
     framed : frame_ok f ≡ true
-    framed = go (frame_ok f) refl
+    unfolding on_frame
+    framed = go (frame_ok f) refl (sym v ∙ i)
       where
-        go : (b : Bool) → frame_ok f ≡ b → b ≡ true
-        go true q = refl
-        go false q = not-both (ap (λ (x : Outline). x.extent) (sym (i ∙ on-bad (refused_outline 3) outline_of f q)) ∙ v)
+        go : (b : Bool) → frame_ok f ≡ b → Ok o ≡ pick b (outline_of (drop 14 f)) (Err NoFrame) → frame_ok f ≡ true
+        go true q h = q
+        go false q h = cc
 
-    from-rest : o ≡ outline_of (drop 14 f)
-    from-rest = i ∙ on-good (refused_outline 3) outline_of f framed
+    from-rest : outline_of (drop 14 f) ≡ Ok o
+    from-rest = sym (on-good (Err NoFrame) outline_of f framed) ∙ sym i ∙ v
 
-    rest-extent : extent_of (drop 14 f) ≡ extent-is.Octets e
-    rest-extent = sym (outline-extent (drop 14 f)) ∙ ap (λ (x : Outline). x.extent) (sym from-rest) ∙ v
+    rest-extent : extent_of (drop 14 f) ≡ Ok o.octets
+    unfolding outline_of
+    rest-extent = go (extent_of (drop 14 f)) refl from-rest
+      where
+        go : (y : Extent) → extent_of (drop 14 f) ≡ y → outline_at y (drop 14 f) ≡ Ok o → extent_of (drop 14 f) ≡ Ok o.octets
+        go (Err k) q h = cc
+        go (Ok n) q h = let z : n ≡ o.octets = cc in q ∙ ap Ok z
+
+    heard-in : heard_in (Ok o.octets) (source_of f) (drop 14 f) ≡ heard_of f
+    unfolding heard_of
+    heard-in = ap (λ (y : Extent). heard_in y (source_of f) (drop 14 f)) (sym (on-good (Err NoFrame) extent_of f framed ∙ rest-extent))
 
     -- l is the LLDPDU as the code has cut it out
-    module _ {l : List ℕ} (t : l ≡ take e (drop 14 f)) where
+    module _ {l : List ℕ} (t : l ≡ take o.octets (drop 14 f)) where
       pub frame-short : length l ≤ size
       frame-short =
-          let z = (sized (good (drop 14 f) e rest-extent)).whole-inside in
+          let z = (sized (good (drop 14 f) o.octets rest-extent)).whole-inside in
           let h = frame-size f framed in
-          rw t (omega (arith, length-take e (drop 14 f), length-drop 14 f))
+          rw t (omega (arith, length-take o.octets (drop 14 f), length-drop 14 f))
 
-      pub same-outline : o ≡ outline_of l
-      same-outline = from-rest ∙ sym (kept-outline (drop 14 f) e rest-extent) ∙ ap outline_of (sym t)
+      pub same-outline : outline_of l ≡ Ok o
+      same-outline = ap outline_of t ∙ kept-outline (drop 14 f) o.octets rest-extent ∙ from-rest
 
       pub saying-tells : (p : ℕ) (s : State) {sender : List ℕ} → sender ≡ source_of f → heard_saying p (said sender l) s ≡ on_heard (heard_of f) p s
-      saying-tells p s q = ap₂ (λ (x y : List ℕ). heard_saying p (said x y) s) q t ∙ ap (λ (x : Heard). on_heard x p s) (heard-in v)
+      saying-tells p s q = ap₂ (λ (x y : List ℕ). heard_saying p (said x y) s) q t ∙ ap (λ (x : Heard). on_heard x p s) heard-in
 
 -- The call
 
 module _ (p : ℕ) (f : List ℕ) (s : State) where
-  pub heard-unfit : fit s ≡ false → telling (Refused 1) s ≡ heard p f s
+  pub heard-unfit : fit s ≡ false → telling (Err Unfit) s ≡ heard p f s
   unfolding heard
   heard-unfit e = rw e
 
-  pub heard-port : fit s ≡ true → ports ≤ p → telling (Refused 2) s ≡ heard p f s
+  pub heard-port : fit s ≡ true → ports ≤ p → telling (Err NoPort) s ≡ heard p f s
   unfolding heard
   heard-port e l = rw (e, le-ltb p ports l)
 
@@ -148,7 +174,7 @@ module _ (p : ℕ) (f : List ℕ) (s : State) where
 -- The refusal number
 
 module _ (s : State) (p : ℕ) (f : fit s ≡ true) (l : p < ports) where
-  said-refusal : (a : Announcement) → refusal_of_reply (heard_saying p a s).outcome.reply ≡ first_due (room_rows (says a) p s)
+  said-refusal : (a : Announcement) → refusal_of (heard_saying p a s).outcome.reply ≡ first_due (room_rows (says a) p s)
   unfolding heard_saying heard_at heard_new share
   said-refusal a =
       let h = holds s.table p in
@@ -157,8 +183,8 @@ module _ (s : State) (p : ℕ) (f : fit s ≡ true) (l : p < ports) where
       (eqb (beyond ports (holds s.table)) common) (λ e. ne_eqb h most (omega (arith, ltb-true h sure e))))
     where
       go : (known goodbye loud few full taken : Bool) → (few ≡ true → full ≡ false)
-          → refusal_of_reply (pick known (pick goodbye (telling Gone (put s (find s (whose p a)) free)) (telling Refreshed (put s (find s (whose p a)) (kept p a))))
-          (pick goodbye (telling UnknownGoodbye s) (heard_by_room (pick loud Loud (pick few Enough (pick full Full (pick taken Taken Enough)))) (kept p a) s))).outcome.reply
+          → refusal_of (pick known (pick goodbye (telling (Ok Gone) (put s (find s (whose p a)) free)) (telling (Ok Refreshed) (put s (find s (whose p a)) (kept p a))))
+          (pick goodbye (telling (Ok UnknownGoodbye) s) (heard_by_room (pick loud Loud (pick few Enough (pick full Full (pick taken Taken Enough)))) (kept p a) s))).outcome.reply
           ≡ pick (both (both (not goodbye) (not known)) loud) 13
           (pick (both (both (not goodbye) (not known)) full) 7 (pick (both (both (not goodbye) (not known)) (both (not few) (both (not full) (both taken true)))) 8 0))
       go true true loud few full taken e = refl
@@ -171,23 +197,23 @@ module _ (s : State) (p : ℕ) (f : fit s ≡ true) (l : p < ports) where
       go false false false false false true e = refl
       go false false false false false false e = refl
 
-  heard-refusal : (f : List ℕ) → refusal_of_reply (on_heard (heard_of f) p s).outcome.reply ≡ first_due (frame_rows f (room_rows (heard_of f) p s))
-  unfolding heard_of on_frame outline_of
+  heard-refusal : (f : List ℕ) → refusal_of (on_heard (heard_of f) p s).outcome.reply ≡ first_due (frame_rows f (room_rows (heard_of f) p s))
+  unfolding heard_of on_frame
   heard-refusal f = rw (extent-rows (drop 14 f) (room_rows (heard_of f) p s)) (go (frame_ok f) (extent_of (drop 14 f)))
     where
       go : (b : Bool) (e : Extent)
-          → refusal_of_reply (on_heard (heard_in (pick b (outline_at e (drop 14 f)) (refused_outline 3)).extent (source_of f) (drop 14 f)) p s).outcome.reply
-          ≡ pick (not b) 3 (due_in e (first_due (room_rows (heard_in (pick b (outline_at e (drop 14 f)) (refused_outline 3)).extent (source_of f) (drop 14 f)) p s)))
-      go true (extent-is.Refused k) = refl
-      go true (extent-is.Octets e) = said-refusal (said (source_of f) (take e (drop 14 f)))
+          → refusal_of (on_heard (heard_in (pick b e (Err NoFrame)) (source_of f) (drop 14 f)) p s).outcome.reply
+          ≡ pick (not b) 3 (due_in e (first_due (room_rows (heard_in (pick b e (Err NoFrame)) (source_of f) (drop 14 f)) p s)))
+      go true (Err k) = refl
+      go true (Ok e) = said-refusal (said (source_of f) (take e (drop 14 f)))
       go false e = refl
 
 pub hears-exactly : (p : ℕ) (f : List ℕ) (s : State) {o : Reception} {b : List ℕ} → told o b ≡ heard p f s → Hears p f s o b
 unfolding heard refusal_on_frame
-hears-exactly p f s e = record { exact = e; refusal = ap (λ (x : Told). refusal_of_reply x.outcome.reply) e ∙ rw (not-below p ports) (go (fit s) refl (ltb p ports) refl) }
+hears-exactly p f s e = record { exact = e; refusal = ap (λ (x : Told). refusal_of x.outcome.reply) e ∙ rw (not-below p ports) (go (fit s) refl (ltb p ports) refl) }
   where
     go : (b : Bool) → fit s ≡ b → (d : Bool) → ltb p ports ≡ d
-        → refusal_of_reply (pick b (pick d (on_heard (heard_of f) p s) (telling (Refused 2) s)) (telling (Refused 1) s)).outcome.reply
+        → refusal_of (pick b (pick d (on_heard (heard_of f) p s) (telling (Err NoPort) s)) (telling (Err Unfit) s)).outcome.reply
         ≡ pick (not b) 1 (pick (not d) 2 (first_due (frame_rows f (room_rows (heard_of f) p s))))
     go true q true r = heard-refusal s p q (ltb-true p ports r) f
     go true q false r = refl
@@ -211,5 +237,5 @@ fit-not-1 p f s e = rw (e, extent-rows (drop 14 f) (room_rows (heard_of f) p s))
     go : (b d : Bool) (x : Extent) → Few x → pick b 2 (pick (not d) 3 (due_in x (first_due (room_rows (heard_of f) p s)))) ≢ 1
     go true d x y z = absurd (omega arith)
     go false false x y z = absurd (omega arith)
-    go false true (extent-is.Refused n) y z = absurd (omega (arith, y.0))
-    go false true (extent-is.Octets n) y z = for-room (heard_of f) z
+    go false true (Err r) y z = absurd (omega (arith, y.0))
+    go false true (Ok n) y z = for-room (heard_of f) z

@@ -1,48 +1,37 @@
-// A frame on a port (N7): recorded, refreshed, gone, unknown goodbye, or refused with its number.
+// A frame on a port (N7): recorded, refreshed, gone, unknown goodbye, or refused.
 // Refusals are decided front to back before the first store (Q1, Q2).
 #![tactic(auto)]
 
-ghost use Rattle.std.specs.Prelude.{◌≡◌, ◌≤◌, ◌<◌, true, length};
+ghost use Rattle.std.specs.Prelude.{◌≡◌, ◌≤◌, ◌<◌, true, length, Ok};
 ghost use Rattle.ids.specs.Id.{id_meant};
-ghost use Rattle.walk.specs.declared.Extent.TheVariants.{Octets};
-ghost use Rattle.lldpdu.specs.Extent.{octets_in};
 ghost use Rattle.lldpdu.specs.Outline.{outline_of};
 ghost use Rattle.numbers.specs.Sizes.{ports, places};
 ghost use Rattle.place.specs.State.{size, octets, state, keep, chassis_in, whose_in, said};
 ghost use Rattle.fitness.specs.Fit.{fit};
 ghost use Rattle.hearing.specs.Frame.{heard_of, reception, told, heard_at, heard_new, heard_saying, on_heard, Hears};
 
-use fitness::{NO_PORT, UNFIT, is_fit};
+use fitness::is_fit;
 use ids::IdPart;
-use lldpdu::{Extent, Outline};
+use lldpdu::Outline;
 use loud::chassis_held;
-use numbers::{PLACES, PORTS, Table, first_free, room_of};
+use numbers::{PORTS, Table, first_free, room_of};
 use place::{place_of, release, store};
 use reader::{HEADER, outline_frame, source_of};
+use refusal::Refusal;
 use rules::{Reply, Room};
 use text::{Part, text_of};
-
-// The refusals of a new one: for want of room (R7, R8), and for what its chassis holds (R13).
-const PORT_FULL: u8 = 7;
-
-const COMMON_TAKEN: u8 = 8;
-
-const CHASSIS_LOUD: u8 = 13;
 
 #[derive(Clone, Copy)]
 pub struct Reception {
     pub table: Table,
-    pub reply: Reply,
+    pub reply: Result<Reply, Refusal>,
 }
 
-// A table that stays as it was, and what is answered.
-fn reply_with(t: Table, reply: Reply) -> Reception
+// The table, and what is answered.
+fn reply_with(t: Table, reply: Result<Reply, Refusal>) -> Reception
     ensures { result ≡ reception t reply }
 {
-    Reception {
-        table: t,
-        reply: reply,
-    }
+    Reception { table: t, reply }
 }
 
 // A goodbye frees the place; any other announcement is kept in it.
@@ -60,10 +49,10 @@ fn hear_known(
 {
     if seconds == 0 {
         let u = release(t, buffer, k);
-        return reply_with(u, Reply::Gone);
+        return reply_with(u, Ok(Reply::Gone));
     }
     let u = store(t, buffer, k, p, seconds, sender, l);
-    reply_with(u, Reply::Refreshed)
+    reply_with(u, Ok(Reply::Refreshed))
 }
 
 // The shares decide, with what its chassis holds on the port; a fit table with room has a free place, so there is no branch without one.
@@ -80,30 +69,29 @@ fn hear_new(
     ensures { told result buffer.new ≡ heard_new seconds (whose_in p l.now) (keep p seconds sender l.now) (state t buffer.old) }
 {
     if seconds == 0 {
-        return reply_with(t, Reply::UnknownGoodbye);
+        return reply_with(t, Ok(Reply::UnknownGoodbye));
     }
     let own = chassis_held(t, buffer, p, l, chassis);
     match room_of(t, p as usize, own) {
-        Room::Loud => reply_with(t, Reply::Refused(CHASSIS_LOUD)),
-        Room::Full => reply_with(t, Reply::Refused(PORT_FULL)),
-        Room::Taken => reply_with(t, Reply::Refused(COMMON_TAKEN)),
+        Room::Loud => reply_with(t, Err(Refusal::ChassisLoud)),
+        Room::Full => reply_with(t, Err(Refusal::PortFull)),
+        Room::Taken => reply_with(t, Err(Refusal::CommonTaken)),
         Room::Enough => {
             let u = store(t, buffer, first_free(t), p, seconds, sender, l);
-            reply_with(u, Reply::Recorded)
+            reply_with(u, Ok(Reply::Recorded))
         }
     }
 }
 
 // What an LLDPDU l that is valid does; o is its outline.
 fn hear(t: Table, buffer: &mut [u8], p: u8, o: Outline, sender: [u8; 6], l: &[u8]) -> Reception
-    requires { (fit (state t buffer.old) ≡ true) × ((p < ports) × ((length l.now ≤ size) × ((o ≡ outline_of l.now) × (o.extent ≡ Octets (octets_in o.extent))))) }
+    requires { (fit (state t buffer.old) ≡ true) × ((p < ports) × ((length l.now ≤ size) × (outline_of l.now ≡ Ok o))) }
     ensures { told result buffer.new ≡ heard_saying p (said sender l.now) (state t buffer.old) }
 {
-    let k = place_of(t, buffer, p, l, o.chassis, o.port);
-    if k < PLACES {
-        return hear_known(t, buffer, k, p, o.seconds, sender, l);
+    match place_of(t, buffer, p, l, o.chassis, o.port) {
+        Some(k) => hear_known(t, buffer, k, p, o.seconds, sender, l),
+        None => hear_new(t, buffer, p, o.seconds, sender, l, o.chassis),
     }
-    hear_new(t, buffer, p, o.seconds, sender, l, o.chassis)
 }
 
 // A frame on a port that there is, on a fit table.
@@ -111,16 +99,14 @@ fn hear_frame(t: Table, buffer: &mut [u8], p: u8, frame: &[u8]) -> Reception
     requires { (fit (state t buffer.old) ≡ true) × (p < ports) }
     ensures { told result buffer.new ≡ on_heard (heard_of frame.now) p (state t buffer.old) }
 {
-    let o = outline_frame(frame);
-    let extent = o.extent;
-    match extent {
-        Extent::Refused(n) => reply_with(t, Reply::Refused(n)),
-        Extent::Octets(e) => {
+    match outline_frame(frame) {
+        Err(r) => reply_with(t, Err(r)),
+        Ok(o) => {
             let l = text_of(
                 frame,
                 Part {
                     start: HEADER,
-                    len: e,
+                    len: o.octets,
                 },
             );
             hear(t, buffer, p, o, source_of(frame), l)
@@ -131,11 +117,11 @@ fn hear_frame(t: Table, buffer: &mut [u8], p: u8, frame: &[u8]) -> Reception
 pub fn frame_on_port(t: Table, buffer: &mut [u8], port: usize, frame: &[u8]) -> Reception
     ensures { Hears port frame.now (state t buffer.old) result buffer.new }
 {
-    if is_fit(t, buffer) {
-        if port < PORTS {
-            return hear_frame(t, buffer, port as u8, frame);
-        }
-        return reply_with(t, Reply::Refused(NO_PORT));
+    if !is_fit(t, buffer) {
+        return reply_with(t, Err(Refusal::Unfit));
     }
-    reply_with(t, Reply::Refused(UNFIT))
+    if port >= PORTS {
+        return reply_with(t, Err(Refusal::NoPort));
+    }
+    hear_frame(t, buffer, port as u8, frame)
 }

@@ -10,15 +10,16 @@ use native.Mathlib.Omega.{arith}
 use borrow.Author.Tests.{eqb-false, ltb-true, ltb-false, lt-ltb, leb-true, leb-false}
 use lib.Dec.{ltb, leb, eqb}
 use lib.ListN.{replicate}
+use Rattle.std.specs.Prelude.{Err}
 use Rattle.tally.specs.Tests.{pick, both}
 use Rattle.ids.specs.Id.{Id}
+use Rattle.refusal.specs.declared.Refusal.TheVariants.{NoPort}
 use Rattle.rules.specs.Identity.{Ident, same}
 use Rattle.rules.specs.Events.{Announcement, Heard, unread, says, Event, frame, passed, lost, History, whose}
 use Rattle.rules.specs.Shares.{places_for, port_is, chassis_is, room}
 use Rattle.rules.specs.Answers.{answer_to}
 use Rattle.rules.specs.declared.Room.{Room}
 use Rattle.rules.specs.declared.Room.TheVariants.{Enough, Loud, Full, Taken}
-use Rattle.rules.specs.declared.Reply.TheVariants.{Refused}
 use Rattle.rules.specs.Model.{Rec, Places, is_some, lookup, tally, holds_in, holds_of, on_record, tick, unplug, recorded, reply, after_frame, step, run}
 use Rattle.rules.specs.Fit.{FitPlaces}
 use Rattle.rules.proofs.IdentityLaws.{clash, same_true}
@@ -81,7 +82,7 @@ module _ (n : ℕ) (h : History) (t : Places) (s : Sound n h t) where
   same_answer p (says a) =
       let same-counts : (λ g. tally g t) ≡ count_neighbours n h = fun_ext tally-count in
       rw (known_same (whose p a))
-      (ap (λ (f : (Ident → Bool) → ℕ). pick (ltb p n) (answer_to (eqb a.seconds 0) (in_force (latest n h (whose p a))) (room n f (whose p a))) (Refused 2)) same-counts)
+      (ap (λ (f : (Ident → Bool) → ℕ). pick (ltb p n) (answer_to (eqb a.seconds 0) (in_force (latest n h (whose p a))) (room n f (whose p a))) (Err NoPort)) same-counts)
 
 -- Seconds passed, link lost
 
@@ -130,7 +131,7 @@ fresh-record p a e =
 -- the frame's own identity: a port that there is? a goodbye? known? and the room
 own-record : (p : ℕ) (a : Announcement) (o : Option Latest) (old : Option Rec) → old ≡ record_for (whose p a) o
     → (b g k : Bool) (rm : Room) → eqb a.seconds 0 ≡ g → is_some old ≡ k
-    → after (pick b (answer_to g k rm) (Refused 2)) (recorded p a) old ≡ record_for (whose p a) (on_answer (pick b (answer_to g k rm) (Refused 2)) a o)
+    → after (pick b (answer_to g k rm) (Err NoPort)) (recorded p a) old ≡ record_for (whose p a) (on_answer (pick b (answer_to g k rm) (Err NoPort)) a o)
 unfolding record_for
 own-record p a o old z true true true rm e d = refl
 own-record p a o old z true true false rm e d = is_none old d

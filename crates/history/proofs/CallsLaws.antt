@@ -6,7 +6,9 @@ use mathlib.Core.Bool.{Bool, true, false}
 use mathlib.Core.List.{List, ◌∷◌}
 use borrow.Author.Tests.{ltb-true, ltb-false}
 use lib.Dec.{ltb}
+use Rattle.std.specs.Prelude.{Ok, Err}
 use Rattle.tally.specs.Tests.{pick}
+use Rattle.refusal.specs.declared.Refusal.TheVariants.{NoPort}
 use Rattle.rules.specs.Events as event
 use Rattle.rules.specs.Events.{Heard, Event, History}
 use Rattle.rules.specs.Model.{step, run, reply}
@@ -21,8 +23,6 @@ use Rattle.freeing.specs.Calls.{passed, link_lost, After}
 use Rattle.hearing.specs.Frame.{heard_of, heard}
 use Rattle.questions.specs.Sight.{counted}
 use Rattle.fitness.specs.View.{view}
-use Rattle.freeing.specs.declared.Answer.TheVariants.{Done, Refused}
-use Rattle.questions.specs.declared.Count.TheVariants as count-is
 use Rattle.fitness.proofs.ViewLaws.{holds-view}
 use Rattle.table.proofs.StepLaws.{Kept, Stepped, kept-fit, start-fit, passed_is, passed-step, lost-is, lost-out, lost-step, frame_step, frame-answer}
 use Rattle.history.specs.Past.{held, answer}
@@ -61,18 +61,18 @@ module _ {s : State} {h : History} (c : Called s h) where
   demand3-answers p f = demand3-replies p f ∙ demand3-table.answers p (heard_of f)
 
   -- seconds passed and link lost are done, but for a port that there is not
-  pub demand3-passed : (n : ℕ) → (passed n s).outcome.answer ≡ Done
+  pub demand3-passed : (n : ℕ) → (passed n s).outcome.answer ≡ Ok tt
   demand3-passed n = ap (λ (a : After). a.outcome.answer) (passed_is s (reached c).kept n)
 
-  pub demand3-lost : (p : ℕ) → (link_lost p s).outcome.answer ≡ pick (ltb p ports) Done (Refused 2)
+  pub demand3-lost : (p : ℕ) → (link_lost p s).outcome.answer ≡ pick (ltb p ports) (Ok tt) (Err NoPort)
   demand3-lost p = go (ltb p ports) refl
     where
-      go : (b : Bool) → ltb p ports ≡ b → (link_lost p s).outcome.answer ≡ pick b Done (Refused 2)
+      go : (b : Bool) → ltb p ports ≡ b → (link_lost p s).outcome.answer ≡ pick b (Ok tt) (Err NoPort)
       go true e = ap (λ (a : After). a.outcome.answer) (lost-is s (reached c).kept p (ltb-true p ports e))
       go false e = ap (λ (a : After). a.outcome.answer) (lost-out s (reached c).kept p (ltb-false p ports e))
 
   -- how many a port holds is how many neighbours the history gives it
-  pub demand3-holds : (p : ℕ) → counted p s ≡ pick (ltb p ports) (count-is.Holds (held ports h p)) (count-is.Refused 2)
+  pub demand3-holds : (p : ℕ) → counted p s ≡ pick (ltb p ports) (Ok (held ports h p)) (Err NoPort)
   unfolding counted
   demand3-holds p = let e : holds s.table p ≡ held ports h p = sym (holds-view s p) ∙ demand3-table.how_many p in rw (always-fit, e)
 

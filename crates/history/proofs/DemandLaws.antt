@@ -10,6 +10,7 @@ use native.Mathlib.Omega.{arith}
 use borrow.Author.Tests.{eqb-true, eq-eqb, ne_eqb, ltb-true, lt-ltb}
 use lib.Dec.{ltb, eqb}
 use lib.ListN.{length}
+use Rattle.std.specs.Prelude.{Ok}
 use Rattle.tally.specs.Tests.{pick, both}
 use Rattle.tally.proofs.TestsLaws.{both_true}
 use Rattle.ids.specs.Id.{Id}
@@ -110,16 +111,16 @@ module _ (n : ℕ) (h : History) where
   unfolding answer answer_by held held_of count_neighbours room present
   new-answer p a x = rw (lt-ltb p n x.port, ne_eqb a.seconds 0 x.lives, not-present (whose p a) x.unknown)
 
-  goodbye-answer : (p : ℕ) (a : Announcement) → p < n → ¬ Neighbour n h (whose p a) → a.seconds ≡ 0 → answer n h p (says a) ≡ UnknownGoodbye
+  goodbye-answer : (p : ℕ) (a : Announcement) → p < n → ¬ Neighbour n h (whose p a) → a.seconds ≡ 0 → answer n h p (says a) ≡ Ok UnknownGoodbye
   unfolding answer answer_by present
   goodbye-answer p a l u z = rw (lt-ltb p n l, eq-eqb a.seconds 0 z, not-present (whose p a) u)
 
-  known-answer : (p : ℕ) (a : Announcement) → Neighbour n h (whose p a) → answer n h p (says a) ≡ pick (eqb a.seconds 0) Gone Refreshed
+  known-answer : (p : ℕ) (a : Announcement) → Neighbour n h (whose p a) → answer n h p (says a) ≡ Ok (pick (eqb a.seconds 0) Gone Refreshed)
   unfolding answer answer_by present
   known-answer p a b =
       rw (lt-ltb p n (neighbour-port (whose p a) b), neighbour-present n h (whose p a) b) (go (eqb a.seconds 0))
     where
-      go : (g : Bool) → answer_to g true (room n (count_by (latest n h) (named h)) (whose p a)) ≡ pick g Gone Refreshed
+      go : (g : Bool) → answer_to g true (room n (count_by (latest n h) (named h)) (whose p a)) ≡ Ok (pick g Gone Refreshed)
       go true = refl
       go false = refl
 

@@ -5,12 +5,15 @@ use mathlib.Core.Path.{◌≡◌, refl, sym, ap, ap₂, ◌∙◌}
 use mathlib.Core.Logic.{◌≢◌, inl, ◌↔◌}
 use mathlib.Core.Bool.{false}
 use mathlib.Core.List.{List}
+use Rattle.std.specs.Prelude.{Ok, Err}
+use Rattle.refusal.specs.declared.Refusal.{Refusal}
+use Rattle.refusal.specs.declared.Refusal.TheVariants.{Unfit, NoPort, CommonTaken}
 use Rattle.rules.specs.Identity.{Ident}
 use Rattle.rules.specs.Events.{Heard, History}
 use Rattle.rules.specs.Model.{Places, lookup, holds_in, reply, after_frame}
 use Rattle.rules.specs.EitherOrder.{Alike, LastPlace, FreedPlace, OrderMatters, Other, OneAtMost, OtherOrder}
-use Rattle.rules.specs.declared.Reply.{Reply}
-use Rattle.rules.specs.declared.Reply.TheVariants.{Recorded, Gone, Refused}
+use Rattle.rules.specs.Answers.{Answered}
+use Rattle.rules.specs.declared.Reply.TheVariants.{Recorded, Gone}
 use Rattle.rules.proofs.EitherOrderLaws as model
 use Rattle.rules.proofs.RecordsLaws.{same-itself}
 use Rattle.numbers.specs.Sizes.{ports}
@@ -103,26 +106,26 @@ module _ (c d : FrameCall) (e : before d ≡ behind c) (k : Kept (before c)) (a 
   abbrev d-says : Heard
   d-says = heard_of (octets_of d)
 
-  answers : (r r' : Reply) → reply ports (port_of c) c-says t ≡ r → reply ports (port_of d) d-says (after_frame ports (port_of c) c-says t) ≡ r'
+  answers : (r r' : Answered) → reply ports (port_of c) c-says t ≡ r → reply ports (port_of d) d-says (after_frame ports (port_of c) c-says t) ≡ r'
       → (answer_of c ≡ r) × (answer_of d ≡ r')
   answers r r' i j = let b = is-second c d k e (port_of c) (port_of d) (octets_of c) (octets_of d) refl refl refl refl in (b.0 ∙ i, b.1.0 ∙ j)
 
   -- (a): the first is recorded, and the second gets 8
-  pub code-first-recorded : LastPlace ports t (port_of c) c-says (port_of d) d-says → (answer_of c ≡ Recorded) × (answer_of d ≡ Refused 8)
+  pub code-first-recorded : LastPlace ports t (port_of c) c-says (port_of d) d-says → (answer_of c ≡ Ok Recorded) × (answer_of d ≡ Err CommonTaken)
   code-first-recorded h =
       let m = model.first-recorded ports t (view-fit (before c) k) (port_of c) c-says (port_of d) d-says a h in
-      answers Recorded (Refused 8) m.first m.second
+      answers (Ok Recorded) (Err CommonTaken) m.first m.second
 
   -- (b): behind the goodbye the other frame is recorded, and before it it gets 8
-  pub code-recorded-behind : FreedPlace ports t (port_of c) c-says (port_of d) d-says → (answer_of c ≡ Gone) × (answer_of d ≡ Recorded)
+  pub code-recorded-behind : FreedPlace ports t (port_of c) c-says (port_of d) d-says → (answer_of c ≡ Ok Gone) × (answer_of d ≡ Ok Recorded)
   code-recorded-behind h =
       let m = model.recorded-behind ports t (view-fit (before c) k) (port_of c) c-says (port_of d) d-says a h in
-      answers Gone Recorded m.gone m.behind
+      answers (Ok Gone) (Ok Recorded) m.gone m.behind
 
-  pub code-refused-before : FreedPlace ports t (port_of d) d-says (port_of c) c-says → (answer_of c ≡ Refused 8) × (answer_of d ≡ Gone)
+  pub code-refused-before : FreedPlace ports t (port_of d) d-says (port_of c) c-says → (answer_of c ≡ Err CommonTaken) × (answer_of d ≡ Ok Gone)
   code-refused-before h =
       let m = model.recorded-behind ports t (view-fit (before c) k) (port_of d) d-says (port_of c) c-says (λ z. a (sym z)) h in
-      answers (Refused 8) Gone m.before m.gone_too
+      answers (Err CommonTaken) (Ok Gone) m.before m.gone_too
 
 -- Which tables these are
 
@@ -140,24 +143,24 @@ code-other-order c c' o = record { kept = run-kept c; kept-too = run-kept c'; re
 -- Tables that are not fit, and ports that there are not (E4)
 
 -- both frames get the refusal k in both orders, and nothing changes
-pub record BothRefused (k : ℕ) (x y y' x' : FrameCall) : Type 0 where
-  pub answer_x : answer_of x ≡ Refused k
-  pub answer_y : answer_of y ≡ Refused k
+pub record BothRefused (k : Refusal) (x y y' x' : FrameCall) : Type 0 where
+  pub answer_x : answer_of x ≡ Err k
+  pub answer_y : answer_of y ≡ Err k
   pub left : behind y ≡ before x
-  pub answer-y-too : answer_of y' ≡ Refused k
-  pub answer_x_too : answer_of x' ≡ Refused k
+  pub answer-y-too : answer_of y' ≡ Err k
+  pub answer_x_too : answer_of x' ≡ Err k
   pub left_too : behind x' ≡ before y'
 
-pub code-unfit : (x y y' x' : FrameCall) → BothOrders x y y' x' → fit (before x) ≡ false → fit (before y') ≡ false → BothRefused 1 x y y' x'
+pub code-unfit : (x y y' x' : FrameCall) → BothOrders x y y' x' → fit (before x) ≡ false → fit (before y') ≡ false → BothRefused Unfit x y y' x'
 code-unfit x y y' x' o u u' =
     let a = twice x y o.next u in
     let b = twice y' x' o.next-too u' in
     record { answer_x = a.0; answer_y = a.1.0; left = a.1.1; answer-y-too = b.0; answer_x_too = b.1.0; left_too = b.1.1 }
   where
-    once : (c : FrameCall) → fit (before c) ≡ false → told_by c ≡ telling (Refused 1) (before c)
+    once : (c : FrameCall) → fit (before c) ≡ false → told_by c ≡ telling (Err Unfit) (before c)
     once c f = c.post.exact ∙ sym (heard-unfit (port_of c) (octets_of c) (before c) f)
 
-    twice : (c d : FrameCall) → before d ≡ behind c → fit (before c) ≡ false → (answer_of c ≡ Refused 1) × ((answer_of d ≡ Refused 1) × (behind d ≡ before c))
+    twice : (c d : FrameCall) → before d ≡ behind c → fit (before c) ≡ false → (answer_of c ≡ Err Unfit) × ((answer_of d ≡ Err Unfit) × (behind d ≡ before c))
     twice c d e f =
         let h = once c f in
         let g : before d ≡ before c = e ∙ ap state_told h in
@@ -166,9 +169,9 @@ code-unfit x y y' x' o u u' =
 
 -- x gets 2 in both orders and changes nothing, and y is answered and leaves the table as if it came alone: as y', which nothing came before
 pub record CodeAlone (x y y' x' : FrameCall) : Type 0 where
-  pub answer_x : answer_of x ≡ Refused 2
+  pub answer_x : answer_of x ≡ Err NoPort
   pub unchanged : behind x ≡ before x
-  pub answer_x_too : answer_of x' ≡ Refused 2
+  pub answer_x_too : answer_of x' ≡ Err NoPort
   pub answer_y : answer_of y ≡ answer_of y'
   pub left : behind y ≡ behind y'
   pub left_too : behind x' ≡ behind y'
@@ -184,7 +187,7 @@ code-no-port x y y' x' o e k l =
       left_too = ap state_told last ∙ o.next-too;
     }
   where
-    first : told_by x ≡ telling (Refused 2) (before x)
+    first : told_by x ≡ telling (Err NoPort) (before x)
     first = x.post.exact ∙ sym (heard-port (port_of x) (octets_of x) (before x) (kept-fit (before x) k) l)
 
     both : told_by y ≡ told_by y'
@@ -197,10 +200,10 @@ code-no-port x y y' x' o e k l =
     kept' : Kept (before x')
     kept' = rw o.next-too (is-step y' (rw e k)).step.kept
 
-    last : told_by x' ≡ telling (Refused 2) (before x')
+    last : told_by x' ≡ telling (Err NoPort) (before x')
     last = x'.post.exact ∙ sym (heard-port (port_of x') (octets_of x') (before x') (kept-fit (before x') kept') (rw o.same-port-x l))
 
-pub code-no-ports : (x y y' x' : FrameCall) → BothOrders x y y' x' → before y' ≡ before x → Kept (before x) → ports ≤ port_of x → ports ≤ port_of y → BothRefused 2 x y y' x'
+pub code-no-ports : (x y y' x' : FrameCall) → BothOrders x y y' x' → before y' ≡ before x → Kept (before x) → ports ≤ port_of x → ports ≤ port_of y → BothRefused NoPort x y y' x'
 code-no-ports x y y' x' o e k l m =
     let a = code-no-port x y y' x' o e k l in
     let b = code-no-port y' x' x y turned (sym e) (rw e k) (rw o.same-port-y m) in

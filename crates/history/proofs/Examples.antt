@@ -7,14 +7,16 @@ use mathlib.Core.List.{List, [], ◌∷◌, ◌++◌}
 use mathlib.Core.Option.{none, some}
 use native.Mathlib.Omega.{arith}
 use lib.ListN.{get_or, drop, replicate}
+use Rattle.std.specs.Prelude.{Ok, Err}
 use Rattle.tally.specs.Counts.{sum}
+use Rattle.refusal.specs.declared.Refusal.TheVariants.{PortFull, CommonTaken, ChassisLoud}
 use Rattle.octets.specs.Address.{same_octets}
 use Rattle.ids.specs.Id.{id, same_id}
 use Rattle.rules.specs.Identity.{same}
 use Rattle.rules.specs.Events.{Announcement, Heard, says, frame, passed, History, whose}
 use Rattle.rules.specs.Shares.{beyond, share, room}
-use Rattle.rules.specs.declared.Reply.{Reply}
-use Rattle.rules.specs.declared.Reply.TheVariants.{Recorded, Refreshed, Gone, UnknownGoodbye, Refused}
+use Rattle.rules.specs.Answers.{Answered}
+use Rattle.rules.specs.declared.Reply.TheVariants.{Recorded, Refreshed, Gone, UnknownGoodbye}
 use Rattle.rules.specs.Model.{Places, is_some, lookup, tick, swap, holds_in, holds_of, reply, after_frame, run}
 use Rattle.rules.specs.EitherOrder.{AsksCommon, FreesCommon, LastPlace, FreedPlace}
 use Rattle.history.specs.Past.{count_by, answer_by, hearing, latest, present, count_neighbours, held, answer}
@@ -62,12 +64,12 @@ abbrev bench : History
 bench = first half 2 ++ sixes half
 
 -- the answers to frames that come one after the other after h
-abbrev answers_to : ℕ → History → List (ℕ × Heard) → List Reply
+abbrev answers_to : ℕ → History → List (ℕ × Heard) → List Answered
 answers_to n h [] = []
 answers_to n h ((p, x) ∷ l) = answer n h p x ∷ answers_to n (frame p x ∷ h) l
 
 -- the same, asked of the model's table
-abbrev replies_to : ℕ → Places → List (ℕ × Heard) → List Reply
+abbrev replies_to : ℕ → Places → List (ℕ × Heard) → List Answered
 replies_to n t [] = []
 replies_to n t ((p, x) ∷ l) = reply n p x t ∷ replies_to n (after_frame n p x t) l
 
@@ -93,8 +95,8 @@ bench-holds = refl
 abbrev run-frames : List (ℕ × Heard)
 run-frames = (0, hello 7) ∷ (half, hello 3) ∷ (suc half, hello 1) ∷ (suc half, hello 2) ∷ (suc half, hello 3) ∷ (0, goodbye 1) ∷ (half, hello 3) ∷ []
 
-abbrev run-expected : List Reply
-run-expected = Refused 7 ∷ Refused 8 ∷ Recorded ∷ Recorded ∷ Refused 8 ∷ Gone ∷ Recorded ∷ []
+abbrev run-expected : List Answered
+run-expected = Err PortFull ∷ Err CommonTaken ∷ Ok Recorded ∷ Ok Recorded ∷ Err CommonTaken ∷ Ok Gone ∷ Ok Recorded ∷ []
 
 pub run-answers : answers_to bench-ports bench run-frames ≡ run-expected
 unfolding answer count_neighbours count_by latest hearing answer_by room share beyond sum same same_id same_octets
@@ -118,10 +120,10 @@ loud-frames =
     three 0 1 ++ ((0, of_switch 1 4) ∷ (0, of_switch 1 1) ∷ (0, says (announced 4 1 4 0)) ∷ (1, of_switch 1 4) ∷ [])
     ++ three 0 2 ++ ((0, of_switch 1 4) ∷ (0, of_switch 2 4) ∷ (0, of_switch 3 1) ∷ (0, says (announced 2 1 2 0)) ∷ (0, of_switch 1 4) ∷ [])
 
-abbrev loud-expected : List Reply
+abbrev loud-expected : List Answered
 loud-expected =
-    replicate 3 Recorded ++ (Refused 13 ∷ Refreshed ∷ UnknownGoodbye ∷ Recorded ∷ [])
-    ++ replicate 3 Recorded ++ (Refused 13 ∷ Refused 13 ∷ Refused 7 ∷ Gone ∷ Recorded ∷ [])
+    replicate 3 (Ok Recorded) ++ (Err ChassisLoud ∷ Ok Refreshed ∷ Ok UnknownGoodbye ∷ Ok Recorded ∷ [])
+    ++ replicate 3 (Ok Recorded) ++ (Err ChassisLoud ∷ Err ChassisLoud ∷ Err PortFull ∷ Ok Gone ∷ Ok Recorded ∷ [])
 
 pub loud-answers : answers_to bench-ports [] loud-frames ≡ loud-expected
 unfolding answer count_neighbours count_by latest hearing answer_by room share beyond sum same same_id same_octets
@@ -176,18 +178,18 @@ third-frees = refl
 
 -- Either order (B26): what two frames on different ports get in the one order, and in the other
 
-abbrev answers_both : History → (ℕ × Heard) → (ℕ × Heard) → List (List Reply)
+abbrev answers_both : History → (ℕ × Heard) → (ℕ × Heard) → List (List Answered)
 answers_both h x y = answers_to bench-ports h (x ∷ y ∷ []) ∷ answers_to bench-ports h (y ∷ x ∷ []) ∷ []
 
-abbrev replies_both : History → (ℕ × Heard) → (ℕ × Heard) → List (List Reply)
+abbrev replies_both : History → (ℕ × Heard) → (ℕ × Heard) → List (List Answered)
 replies_both h x y = replies_to bench-ports (run bench-ports h) (x ∷ y ∷ []) ∷ replies_to bench-ports (run bench-ports h) (y ∷ x ∷ []) ∷ []
 
 -- one common place is left, and the two ports that hold two ask for it: whoever is first gets it
 abbrev one-place-left : History
 one-place-left = first (suc half) 2 ++ first half 2 ++ first (half - 1) 5 ++ sixes (half - 1)
 
-abbrev last-expected : List (List Reply)
-last-expected = (Recorded ∷ Refused 8 ∷ []) ∷ (Recorded ∷ Refused 8 ∷ []) ∷ []
+abbrev last-expected : List (List Answered)
+last-expected = (Ok Recorded ∷ Err CommonTaken ∷ []) ∷ (Ok Recorded ∷ Err CommonTaken ∷ []) ∷ []
 
 pub last-answers : answers_both one-place-left (half, hello 3) (suc half, hello 3) ≡ last-expected
 unfolding answer count_neighbours count_by latest hearing answer_by room share beyond sum same same_id same_octets
@@ -213,8 +215,8 @@ last-place =
     }
 
 -- none is left, and a goodbye on a port that holds six frees one before a port that holds two asks for it, or behind
-abbrev freed-expected : List (List Reply)
-freed-expected = (Gone ∷ Recorded ∷ []) ∷ (Refused 8 ∷ Gone ∷ []) ∷ []
+abbrev freed-expected : List (List Answered)
+freed-expected = (Ok Gone ∷ Ok Recorded ∷ []) ∷ (Err CommonTaken ∷ Ok Gone ∷ []) ∷ []
 
 pub freed-answers : answers_both bench (0, goodbye 1) (half, hello 3) ≡ freed-expected
 unfolding answer count_neighbours count_by latest hearing answer_by room share beyond sum same same_id same_octets
@@ -241,8 +243,8 @@ freed-place =
 abbrev with-one : History
 with-one = first (suc half) 1 ++ bench
 
-abbrev sure-expected : List (List Reply)
-sure-expected = (Gone ∷ Recorded ∷ []) ∷ (Recorded ∷ Gone ∷ []) ∷ []
+abbrev sure-expected : List (List Answered)
+sure-expected = (Ok Gone ∷ Ok Recorded ∷ []) ∷ (Ok Recorded ∷ Ok Gone ∷ []) ∷ []
 
 pub sure-answers : answers_both with-one (0, goodbye 1) (suc half, hello 2) ≡ sure-expected
 unfolding answer count_neighbours count_by latest hearing answer_by room share beyond sum same same_id same_octets
@@ -262,13 +264,13 @@ other_place = (refl, refl)
 abbrev two-more : History
 two-more = first (suc half) 2 ++ bench
 
-pub goes_on : (replies_to bench-ports (run bench-ports two-more) ((0, goodbye 1) ∷ (half, hello 3) ∷ (suc half, hello 3) ∷ []) ≡ Gone ∷ Recorded ∷ Refused 8 ∷ [])
-    × (replies_to bench-ports (run bench-ports two-more) ((half, hello 3) ∷ (0, goodbye 1) ∷ (suc half, hello 3) ∷ []) ≡ Refused 8 ∷ Gone ∷ Recorded ∷ [])
+pub goes_on : (replies_to bench-ports (run bench-ports two-more) ((0, goodbye 1) ∷ (half, hello 3) ∷ (suc half, hello 3) ∷ []) ≡ Ok Gone ∷ Ok Recorded ∷ Err CommonTaken ∷ [])
+    × (replies_to bench-ports (run bench-ports two-more) ((half, hello 3) ∷ (0, goodbye 1) ∷ (suc half, hello 3) ∷ []) ≡ Err CommonTaken ∷ Ok Gone ∷ Ok Recorded ∷ [])
 unfolding after_frame reply swap room share beyond sum same same_id same_octets
 goes_on = (refl, refl)
 
 -- and it ends where the one that was refused is heard again and a place is left: the one table refreshes it, the other records it
-pub comes-together : (replies_to bench-ports (run bench-ports bench) ((0, goodbye 1) ∷ (half, hello 3) ∷ (half, hello 3) ∷ []) ≡ Gone ∷ Recorded ∷ Refreshed ∷ [])
-    × (replies_to bench-ports (run bench-ports bench) ((half, hello 3) ∷ (0, goodbye 1) ∷ (half, hello 3) ∷ []) ≡ Refused 8 ∷ Gone ∷ Recorded ∷ [])
+pub comes-together : (replies_to bench-ports (run bench-ports bench) ((0, goodbye 1) ∷ (half, hello 3) ∷ (half, hello 3) ∷ []) ≡ Ok Gone ∷ Ok Recorded ∷ Ok Refreshed ∷ [])
+    × (replies_to bench-ports (run bench-ports bench) ((half, hello 3) ∷ (0, goodbye 1) ∷ (half, hello 3) ∷ []) ≡ Err CommonTaken ∷ Ok Gone ∷ Ok Recorded ∷ [])
 unfolding after_frame reply swap room share beyond sum same same_id same_octets
 comes-together = (refl, refl)

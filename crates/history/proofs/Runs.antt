@@ -11,26 +11,23 @@ use native.Mathlib.Omega.{arith}
 use borrow.Author.Tests.{eq-eqb}
 use lib.Dec.{ltb, eqb}
 use lib.ListN.{length}
+use Rattle.std.specs.Prelude.{Ok, Err, Some, None}
 use Rattle.tally.specs.Tests.{pick}
+use Rattle.refusal.specs.Refusal.{refusal_of}
+use Rattle.refusal.specs.declared.Refusal.TheVariants as refusal
 use Rattle.ids.specs.Id.{Id}
 use Rattle.naming.specs.declared.Number.{Number}
 use Rattle.rules.specs.Events as event
 use Rattle.rules.specs.Events.{Announcement, Heard, says, History, whose}
 use Rattle.rules.specs.Shares.{sure, most, per_chassis}
-use Rattle.rules.specs.Answers.{refusal_of_reply}
-use Rattle.rules.specs.declared.Reply.TheVariants.{Recorded, Refreshed, Gone, UnknownGoodbye, Refused}
+use Rattle.rules.specs.declared.Reply.TheVariants.{Recorded, Refreshed, Gone, UnknownGoodbye}
 use Rattle.rules.specs.Model.{Places, holds_in, holds_of, reply}
 use Rattle.numbers.specs.Sizes.{ports}
 use Rattle.place.specs.State.{State, octets, state}
 use Rattle.fitness.specs.Refusals.{refusal_when_unfit}
 use Rattle.freeing.specs.Calls.{After, state_after, started}
-use Rattle.freeing.specs.declared.Answer.TheVariants.{Done}
-use Rattle.freeing.specs.declared.Answer.TheVariants as answer-is
 use Rattle.hearing.specs.Frame.{heard_of, Told, state_told}
 use Rattle.fitness.specs.View.{view}
-use Rattle.questions.specs.declared.Count.TheVariants as count-is
-use Rattle.questions.specs.Sight.{refusal_of_sight}
-use Rattle.questions.specs.declared.Sight.TheVariants.{Nobody, At}
 use Rattle.freeing.proofs.start.Kinds as start-kinds
 use Rattle.freeing.proofs.start.Reads as start
 use Rattle.hearing.proofs.frame_on_port.Kinds as frame-kinds
@@ -102,8 +99,8 @@ module _ {h : History} (κs : Lfts 2) (a : Dens κs frame-kinds.ps) (r : (res_t 
   code-answers = ap (λ (t : Told). t.outcome.reply) post.exact ∙ demand3-answers (ran-called c) port octets_heard
 
   -- never with 1: after a Start the table is fit (R1)
-  pub code-frame-not-1 : r.reply ≢ Refused 1
-  code-frame-not-1 e = fit-not-1 port octets_heard (state a.0 a.1.0.now) (always-fit (ran-called c)) (sym post.refusal ∙ ap refusal_of_reply e)
+  pub code-frame-not-1 : r.reply ≢ Err refusal.Unfit
+  code-frame-not-1 e = fit-not-1 port octets_heard (state a.0 a.1.0.now) (always-fit (ran-called c)) (sym post.refusal ∙ ap refusal_of e)
 
   -- a valid frame, sentence by sentence
   module _ (said : Announcement) (e : heard_of octets_heard ≡ says said) where
@@ -113,34 +110,34 @@ module _ {h : History} (κs : Lfts 2) (a : Dens κs frame-kinds.ps) (r : (res_t 
         ∙ demand3-replies (ran-called c) port octets_heard
         ∙ ap (λ (y : Heard). reply ports port y (view (state a.0 a.1.0.now))) e
 
-    pub code-sure : New ports h port said → held ports h port < sure → r.reply ≡ Recorded
+    pub code-sure : New ports h port said → held ports h port < sure → r.reply ≡ Ok Recorded
     code-sure m l = as-model ∙ (demand3-code c).sure_places port said m l
 
-    pub code-seventh-loud : New ports h port said → held ports h port ≡ most → Loud ports h port said → r.reply ≡ Refused 13
+    pub code-seventh-loud : New ports h port said → held ports h port ≡ most → Loud ports h port said → r.reply ≡ Err refusal.ChassisLoud
     code-seventh-loud m l o = as-model ∙ ((demand3-code c).seventh port said m l).0 o
 
-    pub code-seventh : New ports h port said → held ports h port ≡ most → ¬ Loud ports h port said → r.reply ≡ Refused 7
+    pub code-seventh : New ports h port said → held ports h port ≡ most → ¬ Loud ports h port said → r.reply ≡ Err refusal.PortFull
     code-seventh m l o = as-model ∙ ((demand3-code c).seventh port said m l).1 o
 
     module _ (m : New ports h port said) (l : sure ≤ held ports h port) (u : held ports h port < most) where
-      pub code-loud : Loud ports h port said → r.reply ≡ Refused 13
+      pub code-loud : Loud ports h port said → r.reply ≡ Err refusal.ChassisLoud
       code-loud o = as-model ∙ ((demand3-code c).common_places port said m l u).0 o
 
-      pub code-taken : ¬ Loud ports h port said → CommonTaken ports h → r.reply ≡ Refused 8
+      pub code-taken : ¬ Loud ports h port said → CommonTaken ports h → r.reply ≡ Err refusal.CommonTaken
       code-taken o t = as-model ∙ ((demand3-code c).common_places port said m l u).1.0 o t
 
-      pub code-untaken : ¬ Loud ports h port said → ¬ CommonTaken ports h → r.reply ≡ Recorded
+      pub code-untaken : ¬ Loud ports h port said → ¬ CommonTaken ports h → r.reply ≡ Ok Recorded
       code-untaken o t = as-model ∙ ((demand3-code c).common_places port said m l u).1.1 o t
 
-    pub code-known : Neighbour ports h (whose port said) → r.reply ≡ pick (eqb said.seconds 0) Gone Refreshed
+    pub code-known : Neighbour ports h (whose port said) → r.reply ≡ Ok (pick (eqb said.seconds 0) Gone Refreshed)
     code-known b = as-model ∙ (demand3-code c).known port said b
 
-    pub code-goodbye : port < ports → ¬ Neighbour ports h (whose port said) → said.seconds ≡ 0 → r.reply ≡ UnknownGoodbye
+    pub code-goodbye : port < ports → ¬ Neighbour ports h (whose port said) → said.seconds ≡ 0 → r.reply ≡ Ok UnknownGoodbye
     code-goodbye l u z = as-model ∙ (demand3-code c).goodbye port said l u z
 
 -- `start` was called with a buffer of the right length, as it is after a run: it is done
 pub code-started : (κs : Lfts 1) (a : Dens κs start-kinds.ps) (r : (res_t start-kinds.r κs).Denot) (x : AtExit (ended_of 1 start-kinds.ps start-kinds.r) κs)
-    → length a.1.0.now ≡ octets → start.Post κs a r x → r.answer ≡ Done
+    → length a.1.0.now ≡ octets → start.Post κs a r x → r.answer ≡ Ok tt
 unfolding started
 code-started κs a r x l post = ap (λ (y : After). y.outcome.answer) post.exact ∙ rw (eq-eqb (length a.1.0.now) octets l)
 
@@ -149,16 +146,16 @@ ran-octets {s} c = (fit_parts s (always-fit (ran-called c))).long
 
 -- `seconds_passed` and `link_lost` were called after a run: they are done, but for a port that there is not
 pub code-passed : {h : History} (κs : Lfts 1) (a : Dens κs passed-kinds.ps) (r : (res_t passed-kinds.r κs).Denot) (x : AtExit (ended_of 1 passed-kinds.ps passed-kinds.r) κs)
-    → Ran (state a.0 a.1.0.now) h → seconds-passed.Post κs a r x → r.answer ≡ Done
+    → Ran (state a.0 a.1.0.now) h → seconds-passed.Post κs a r x → r.answer ≡ Ok tt
 code-passed κs a r x c post = ap (λ (y : After). y.outcome.answer) post.exact ∙ demand3-passed (ran-called c) a.1.1.0
 
 pub code-lost : {h : History} (κs : Lfts 1) (a : Dens κs lost-kinds.ps) (r : (res_t lost-kinds.r κs).Denot) (x : AtExit (ended_of 1 lost-kinds.ps lost-kinds.r) κs)
-    → Ran (state a.0 a.1.0.now) h → link_lost.Post κs a r x → r.answer ≡ pick (ltb a.1.1.0 ports) Done (answer-is.Refused 2)
+    → Ran (state a.0 a.1.0.now) h → link_lost.Post κs a r x → r.answer ≡ pick (ltb a.1.1.0 ports) (Ok tt) (Err refusal.NoPort)
 code-lost κs a r x c post = ap (λ (y : After). y.outcome.answer) post.exact ∙ demand3-lost (ran-called c) a.1.1.0
 
 -- `how_many` was asked after a run
 pub code_holds : {h : History} (κs : Lfts 1) (a : Dens κs many-kinds.ps) (r : (res_t many-kinds.r κs).Denot) (x : AtExit (ended_of 1 many-kinds.ps many-kinds.r) κs)
-    → Ran (state a.0 a.1.0.now) h → how_many.Post κs a r x → r ≡ pick (ltb a.1.1.0 ports) (count-is.Holds (held ports h a.1.1.0)) (count-is.Refused 2)
+    → Ran (state a.0 a.1.0.now) h → how_many.Post κs a r x → r ≡ pick (ltb a.1.1.0 ports) (Ok (held ports h a.1.1.0)) (Err refusal.NoPort)
 code_holds κs a r x c post = post.exact ∙ demand3-holds (ran-called c) a.1.1.0
 
 -- `who_sees` was asked after a run, of an address from a place on
@@ -173,17 +170,17 @@ module _ {h : History} (κs : Lfts 1) (a : Dens κs sees-kinds.ps) (r : (res_t s
   abbrev table : Places
   table = view (state a.0 a.1.0.now)
 
-  pub code-sees : (k : ℕ) (i p : Number) → (r ≡ At k i p) ↔ Lowest h table address from k (i, p)
+  pub code-sees : (k : ℕ) (i p : Number) → (r ≡ Ok (Some (record { place = k; interface = i; port = p }))) ↔ Lowest h table address from k (i, p)
   code-sees k i p =
       let d = demand3-sees (ran-called c) address from k i p in
       (λ e. d.0 (sym post.exact ∙ e), λ l. post.exact ∙ d.1 l)
 
   -- never refused: there is no port, and after a Start the table is fit (R1)
-  pub code-sees-unrefused : refusal_of_sight r ≡ 0
+  pub code-sees-unrefused : refusal_of r ≡ 0
   unfolding refusal_when_unfit
   code-sees-unrefused = post.refusal ∙ rw (always-fit (ran-called c))
 
-  pub code-unseen : (r ≡ Nobody) ↔ ((k : ℕ) (y : Number × Number) → from ≤ k → ¬ NeighbourNames h table address k y)
+  pub code-unseen : (r ≡ Ok None) ↔ ((k : ℕ) (y : Number × Number) → from ≤ k → ¬ NeighbourNames h table address k y)
   code-unseen =
       let d = demand3-unseen (ran-called c) address from in
       (λ e. d.0 (sym post.exact ∙ e), λ g. post.exact ∙ d.1 g)

@@ -10,6 +10,9 @@ use native.Mathlib.Omega.{arith}
 use borrow.Author.Tests.{ltb-true, ltb-false}
 use lib.Dec.{ltb}
 use lib.ListN.{get_or, get_or-eq_default}
+use Rattle.std.specs.Prelude.{Result, Ok, Some, None}
+use Rattle.std.specs.Prelude.{Option as CodeOption}
+use Rattle.refusal.specs.declared.Refusal.{Refusal}
 use Rattle.lldpdu.specs.Extent.{extent_of}
 use Rattle.naming.specs.Naming as naming
 use Rattle.naming.specs.declared.Number.{Number}
@@ -18,13 +21,17 @@ use Rattle.rules.specs.Model.{Rec}
 use Rattle.numbers.specs.Sizes.{places}
 use Rattle.place.specs.State.{State, at}
 use Rattle.questions.specs.Sight.{sight, seen_in_place}
+use Rattle.questions.specs.declared.Sight.{Sight}
 use Rattle.fitness.specs.View.{view}
-use Rattle.questions.specs.declared.Sight.TheVariants.{Nobody, At}
 use Rattle.fitness.proofs.ViewLaws.{view-long}
 use Rattle.questions.proofs.LowestLaws as table
 use Rattle.questions.proofs.LowestLaws.{seen_in_record, seen-record, sight-as-from, at-lowest, lowest-at, nobody-none, none-nobody}
 use Rattle.history.specs.Calls.{Called, NeighbourNames, Lowest}
 use Rattle.history.proofs.CallsLaws.{always-fit, demand3-table}
+
+-- two answers that are no refusals
+same-told : {x y : CodeOption Sight} → ◌≡◌ {A = Result (CodeOption Sight) Refusal} (Ok x) (Ok y) → x ≡ y
+same-told e = cc
 
 module _ {s : State} {h : History} (c : Called s h) (a : List ℕ) where
   -- One place
@@ -88,16 +95,16 @@ module _ {s : State} {h : History} (c : Called s h) (a : List ℕ) where
           before = λ j m u. unseen j (omega arith) (λ y. l.before j y m u);
         }
 
-    pub demand3-sees : (k : ℕ) (i p : Number) → (sight a from s ≡ At k i p) ↔ Lowest h (view s) a from k (i, p)
+    pub demand3-sees : (k : ℕ) (i p : Number) → (sight a from s ≡ Ok (Some (record { place = k; interface = i; port = p }))) ↔ Lowest h (view s) a from k (i, p)
     demand3-sees k i p =
         let f = sight-as-from s (always-fit c) a from in (
-          λ e. lowest-here k (i, p) (at-lowest s a from (places - from) k i p (sym f ∙ e)),
-          λ l. f ∙ lowest-at s a from (places - from) k i p (lowest-there k (i, p) l),
+          λ e. lowest-here k (i, p) (at-lowest s a from (places - from) k i p (same-told (sym f ∙ e))),
+          λ l. f ∙ ap Ok (lowest-at s a from (places - from) k i p (lowest-there k (i, p) l)),
         )
 
-    pub demand3-unseen : (sight a from s ≡ Nobody) ↔ ((k : ℕ) (x : Number × Number) → from ≤ k → ¬ NeighbourNames h (view s) a k x)
+    pub demand3-unseen : (sight a from s ≡ Ok None) ↔ ((k : ℕ) (x : Number × Number) → from ≤ k → ¬ NeighbourNames h (view s) a k x)
     demand3-unseen =
         let f = sight-as-from s (always-fit c) a from in (
-          λ e k x l m. let low = names-below k x m in not_named k (nobody-none s a from (places - from) (sym f ∙ e) k l (omega arith)) x m,
-          λ g. f ∙ none-nobody s a from (places - from) (λ j l u. unseen j (omega arith) (λ x. g j x l)),
+          λ e k x l m. let low = names-below k x m in not_named k (nobody-none s a from (places - from) (same-told (sym f ∙ e)) k l (omega arith)) x m,
+          λ g. f ∙ ap Ok (none-nobody s a from (places - from) (λ j l u. unseen j (omega arith) (λ x. g j x l))),
         )

@@ -15,7 +15,7 @@ use Rattle.rules.specs.Shares.{port_is}
 use Rattle.rules.specs.Model.{reply}
 use Rattle.rules.specs.Records.{records_in, SameRecords}
 use Rattle.rules.proofs.TwoTablesLaws.{same_count, same-reply, same_step}
-use Rattle.rules.specs.declared.Reply.{Reply}
+use Rattle.rules.specs.Answers.{Answered}
 use Rattle.numbers.specs.Sizes.{ports}
 use Rattle.numbers.specs.Numbers.{holds}
 use Rattle.place.specs.State.{State, state}
@@ -56,7 +56,7 @@ port_of c = c.a.1.1.0
 abbrev pub octets_of : FrameCall → List ℕ
 octets_of c = c.a.1.1.1.0.now
 
-abbrev pub answer_of : FrameCall → Reply
+abbrev pub answer_of : FrameCall → Answered
 answer_of c = c.r.reply
 
 abbrev pub told_by : FrameCall → Told

@@ -9,6 +9,7 @@ use mathlib.Core.List.{List, [], ◌∷◌}
 use borrow.Author.Tests.{ltb-true, ltb-false}
 use lib.Dec.{ltb}
 use lib.ListN.{length, replicate, length-replicate}
+use Rattle.refusal.specs.declared.Refusal.TheVariants.{NoPort}
 use Rattle.rules.specs.Events as event
 use Rattle.rules.specs.Events.{History}
 use Rattle.numbers.specs.Sizes.{ports, places}
@@ -43,7 +44,7 @@ loses {s} {h} c ran p = go (ltb p ports) refl
         ends (ap state_after post.exact) (ran-lost ([], tt) (s.table, (lent s.buf, (p, tt))) (done s'.table) (s.table, (lent s'.buf, (p, tt))) ran post)
     go false e =
         let post = lost-port s p (always-fit c) (ltb-false p ports e) refl in
-        ends (ap state_after post.exact) (ran-lost ([], tt) (s.table, (lent s.buf, (p, tt))) (refused_outcome s.table 2) (s.table, (lent s.buf, (p, tt))) ran post)
+        ends (ap state_after post.exact) (ran-lost ([], tt) (s.table, (lent s.buf, (p, tt))) (refused_outcome s.table NoPort) (s.table, (lent s.buf, (p, tt))) ran post)
 
 pub called-ran : {s : State} {h : History} → Called s h → Ran s h
 called-ran (begun s l) =

@@ -8,15 +8,16 @@ use mathlib.Core.List.{[], ◌∷◌, ◌++◌}
 use mathlib.Core.Option.{Option, none, some}
 use borrow.Author.Tests.{eqb-false, ne_eqb, ltb-true, ltb-false, lt-ltb}
 use lib.Dec.{ltb, eqb}
+use Rattle.std.specs.Prelude.{Ok, Err}
 use Rattle.tally.specs.Tests.{pick}
+use Rattle.refusal.specs.declared.Refusal.TheVariants.{NoPort}
 use Rattle.rules.specs.Identity.{Ident, same}
 use Rattle.rules.specs.Events.{Announcement, unread, says, Event, frame, passed, lost, History, whose}
 use Rattle.rules.specs.Shares.{room}
-use Rattle.rules.specs.Answers.{answer_to}
+use Rattle.rules.specs.Answers.{Answered, answer_to}
 use Rattle.rules.specs.declared.Room.{Room}
 use Rattle.rules.specs.declared.Room.TheVariants.{Enough, Loud, Full, Taken}
-use Rattle.rules.specs.declared.Reply.{Reply}
-use Rattle.rules.specs.declared.Reply.TheVariants.{Recorded, Refreshed, Gone, UnknownGoodbye, Refused}
+use Rattle.rules.specs.declared.Reply.TheVariants.{Recorded, Refreshed, Gone, UnknownGoodbye}
 use Rattle.rules.proofs.IdentityLaws.{clash, same_true, same_self}
 use Rattle.history.specs.Past.{Latest, in_force, older, fresh, on_answer, named, count_by, answer_by, hearing, latest, present, answer}
 use Rattle.history.specs.Words.{Accepted, Quiet, AllQuiet, seconds_of, seconds_over, Last, Neighbour}
@@ -24,16 +25,16 @@ use Rattle.history.proofs.PastLaws.{older-zero, frame-own, no-port}
 
 -- What an answer makes of what was said before
 
-accepted-fresh : (r : Reply) (a : Announcement) (old : Option Latest) → Accepted r → on_answer r a old ≡ fresh a
-accepted-fresh Recorded a old h = refl
-accepted-fresh Refreshed a old h = refl
-accepted-fresh Gone a old h = absurd h
-accepted-fresh UnknownGoodbye a old h = absurd h
-accepted-fresh (Refused k) a old h = absurd h
+accepted-fresh : (r : Answered) (a : Announcement) (old : Option Latest) → Accepted r → on_answer r a old ≡ fresh a
+accepted-fresh (Ok Recorded) a old h = refl
+accepted-fresh (Ok Refreshed) a old h = refl
+accepted-fresh (Ok Gone) a old h = absurd h
+accepted-fresh (Ok UnknownGoodbye) a old h = absurd h
+accepted-fresh (Err k) a old h = absurd h
 
 -- a port that there is? a goodbye? known? and the room
-abbrev by_tests : Bool → Bool → Bool → Room → Reply
-by_tests b g k rm = pick b (answer_to g k rm) (Refused 2)
+abbrev by_tests : Bool → Bool → Bool → Room → Answered
+by_tests b g k rm = pick b (answer_to g k rm) (Err NoPort)
 
 refused-stays : (b k : Bool) (rm : Room) (a : Announcement) (old : Option Latest) → ¬ Accepted (by_tests b false k rm) → on_answer (by_tests b false k rm) a old ≡ old
 refused-stays true true rm a old h = absurd (h tt)
@@ -92,13 +93,13 @@ module _ (n : ℕ) where
   effect-own : (p : ℕ) (a : Announcement) (h : History) → Effect (frame p (says a)) h (whose p a)
   effect-own p a h = go (eqb a.seconds 0) refl (answer n h p (says a)) refl
     where
-      go : (g : Bool) → eqb a.seconds 0 ≡ g → (r : Reply) → answer n h p (says a) ≡ r → Effect (frame p (says a)) h (whose p a)
+      go : (g : Bool) → eqb a.seconds 0 ≡ g → (r : Answered) → answer n h p (says a) ≡ r → Effect (frame p (says a)) h (whose p a)
       go true g r z = cleared (goodbye-own p a h g)
-      go false g Recorded z = announced a refl refl (rw z tt)
-      go false g Refreshed z = announced a refl refl (rw z tt)
-      go false g Gone z = quietly (λ v. (eqb-false a.seconds 0 g, rw z (λ f. f)))
-      go false g UnknownGoodbye z = quietly (λ v. (eqb-false a.seconds 0 g, rw z (λ f. f)))
-      go false g (Refused k) z = quietly (λ v. (eqb-false a.seconds 0 g, rw z (λ f. f)))
+      go false g (Ok Recorded) z = announced a refl refl (rw z tt)
+      go false g (Ok Refreshed) z = announced a refl refl (rw z tt)
+      go false g (Ok Gone) z = quietly (λ v. (eqb-false a.seconds 0 g, rw z (λ f. f)))
+      go false g (Ok UnknownGoodbye) z = quietly (λ v. (eqb-false a.seconds 0 g, rw z (λ f. f)))
+      go false g (Err k) z = quietly (λ v. (eqb-false a.seconds 0 g, rw z (λ f. f)))
 
   effect : (e : Event) (h : History) (w : Ident) → Effect e h w
   unfolding latest

@@ -1,13 +1,14 @@
 -- Demand 3 as one record: each field is a sentence of it, of the table t that the history h led to, with n ports; [ ] has a number that follows from n.
 -- `reply n p x t` is what table t answers to what is heard on port p; `held n h p` is how many neighbours the history gives the port.
-use Rattle.std.specs.Prelude.{ℕ, ◌+◌, ◌≤◌, ◌<◌, ◌≡◌, ◌≢◌, ◌↔◌, true, false, List, [], ◌∷◌, eqb, length, get_or}
+use Rattle.std.specs.Prelude.{ℕ, ◌+◌, ◌≤◌, ◌<◌, ◌≡◌, ◌≢◌, ◌↔◌, true, false, List, [], ◌∷◌, Ok, Err, eqb, length, get_or}
 use Rattle.std.proofs.Math.Option.{none, some}
 use Rattle.tally.specs.Tests.{pick}
+use Rattle.refusal.specs.declared.Refusal.TheVariants as refusal
 use Rattle.ids.specs.Id.{Id}
 use Rattle.rules.specs.Identity.{Ident}
 use Rattle.rules.specs.Events.{Announcement, Heard, says, History, whose}
 use Rattle.rules.specs.Shares.{sure, most, per_chassis, common_for, beyond}
-use Rattle.rules.specs.declared.Reply.TheVariants.{Recorded, Refreshed, Gone, UnknownGoodbye, Refused}
+use Rattle.rules.specs.declared.Reply.TheVariants.{Recorded, Refreshed, Gone, UnknownGoodbye}
 use Rattle.rules.specs.Model.{Rec, Places, holds_in, holds_of, reply}
 use Rattle.rules.specs.Fit.{Once}
 use Rattle.history.specs.Past.{among, held, held_of, answer}
@@ -58,23 +59,23 @@ pub record Demand3 (n : ℕ) (h : History) (t : Places) : Type 0 where
   pub answers : (p : ℕ) (x : Heard) → reply n p x t ≡ answer n h p x
   -- "A port with fewer than two neighbours always gets a valid new one with time to live recorded, whatever the other [n - 1] carried.":
   -- still so, since a chassis with three means a port with three
-  pub sure_places : (p : ℕ) (a : Announcement) → New n h p a → held n h p < sure → reply n p (says a) t ≡ Recorded
+  pub sure_places : (p : ℕ) (a : Announcement) → New n h p a → held n h p < sure → reply n p (says a) t ≡ Ok Recorded
   -- "No port ever holds more than six.": with six it refuses with 13 where the chassis holds three there, else with 7
   pub six : (p : ℕ) → holds_in t p ≤ most
   pub seventh : (p : ℕ) (a : Announcement) → New n h p a → held n h p ≡ most
-      → (Loud n h p a → reply n p (says a) t ≡ Refused 13) × (¬ Loud n h p a → reply n p (says a) t ≡ Refused 7)
+      → (Loud n h p a → reply n p (says a) t ≡ Err refusal.ChassisLoud) × (¬ Loud n h p a → reply n p (says a) t ≡ Err refusal.PortFull)
   -- "A port with two to five is refused such a one exactly when the [2n] common places are taken."; asked for later: "exactly on 13 or 8":
   -- with 13 where the chassis holds three there; where it does not, with 8 if the common places are taken, and else it is recorded
   pub common_places : (p : ℕ) (a : Announcement) → New n h p a → sure ≤ held n h p → held n h p < most
-      → (Loud n h p a → reply n p (says a) t ≡ Refused 13)
-      × ((¬ Loud n h p a → CommonTaken n h → reply n p (says a) t ≡ Refused 8)
-      × (¬ Loud n h p a → ¬ CommonTaken n h → reply n p (says a) t ≡ Recorded))
+      → (Loud n h p a → reply n p (says a) t ≡ Err refusal.ChassisLoud)
+      × ((¬ Loud n h p a → CommonTaken n h → reply n p (says a) t ≡ Err refusal.CommonTaken)
+      × (¬ Loud n h p a → ¬ CommonTaken n h → reply n p (says a) t ≡ Ok Recorded))
   -- asked for later: "Let one chassis hold at most three records on one port."
   pub three : (p : ℕ) (c : Id) → held_of n h p c ≤ per_chassis
   -- "A known neighbour is never refused for room.", nor for its chassis, and neither is its goodbye
-  pub known : (p : ℕ) (a : Announcement) → Neighbour n h (whose p a) → reply n p (says a) t ≡ pick (eqb a.seconds 0) Gone Refreshed
+  pub known : (p : ℕ) (a : Announcement) → Neighbour n h (whose p a) → reply n p (says a) t ≡ Ok (pick (eqb a.seconds 0) Gone Refreshed)
   -- asked for later: only a new one with "TTL above 0" is refused for its chassis; so a goodbye of one that is no neighbour is answered as it was
-  pub goodbye : (p : ℕ) (a : Announcement) → p < n → ¬ Neighbour n h (whose p a) → a.seconds ≡ 0 → reply n p (says a) t ≡ UnknownGoodbye
+  pub goodbye : (p : ℕ) (a : Announcement) → p < n → ¬ Neighbour n h (whose p a) → a.seconds ≡ 0 → reply n p (says a) t ≡ Ok UnknownGoodbye
   -- how many a port holds is the history's number, and that is the number of its neighbours: the length of any list of them
   pub how_many : (p : ℕ) → holds_in t p ≡ held n h p
   pub counted : (p : ℕ) (l : List Ident) → Distinct l → ((w : Ident) → (among w l ≡ true) ↔ ((w.port ≡ p) × Neighbour n h w)) → length l ≡ held n h p

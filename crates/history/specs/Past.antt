@@ -1,16 +1,16 @@
 -- What a history says of each neighbour, by the history and the rules alone: there is no table in it.
 -- `latest` is what the demand speaks of; Words.antt says the same in the demand's own words.
-use Rattle.std.specs.Prelude.{ℕ, ◌+◌, List, [], ◌∷◌, Bool, false, ltb, eqb}
+use Rattle.std.specs.Prelude.{ℕ, ◌+◌, List, [], ◌∷◌, Bool, false, Ok, Err, ltb, eqb}
 use Rattle.std.proofs.Math.Option.{Option, none, some}
 use Rattle.tally.specs.Tests.{pick, both, either}
 use Rattle.tally.specs.Counts.{one}
+use Rattle.refusal.specs.declared.Refusal.TheVariants.{NoPort}
 use Rattle.ids.specs.Id.{Id}
 use Rattle.rules.specs.Identity.{Ident, same}
 use Rattle.rules.specs.Events.{Announcement, Heard, unread, says, frame, passed, lost, History, whose}
 use Rattle.rules.specs.Shares.{port_is, chassis_is, room}
-use Rattle.rules.specs.Answers.{answer_to}
-use Rattle.rules.specs.declared.Reply.{Reply}
-use Rattle.rules.specs.declared.Reply.TheVariants.{Recorded, Refreshed, Gone, UnknownGoodbye, Refused}
+use Rattle.rules.specs.Answers.{Answered, answer_to}
+use Rattle.rules.specs.declared.Reply.TheVariants.{Recorded, Refreshed, Gone, UnknownGoodbye}
 
 -- a recorded announcement, and the seconds that passed since
 pub record Latest : Type 0 where
@@ -30,12 +30,12 @@ abbrev pub fresh : Announcement → Option Latest
 fresh a = some (record { said = a; since = 0 })
 
 -- what is the latest of an identity once it announced itself anew and got this answer
-abbrev pub on_answer : Reply → Announcement → Option Latest → Option Latest
-on_answer Recorded a old = fresh a
-on_answer Refreshed a old = fresh a
-on_answer Gone a old = none
-on_answer UnknownGoodbye a old = none
-on_answer (Refused k) a old = old
+abbrev pub on_answer : Answered → Announcement → Option Latest → Option Latest
+on_answer (Ok Recorded) a old = fresh a
+on_answer (Ok Refreshed) a old = fresh a
+on_answer (Ok Gone) a old = none
+on_answer (Ok UnknownGoodbye) a old = none
+on_answer (Err k) a old = old
 
 -- Whom the frames of a history named, each once
 
@@ -61,13 +61,13 @@ unfoldable pub count_by : (Ident → Option Latest) → List Ident → (Ident �
 count_by before names g = passing (λ w. both (g w) (in_force (before w))) names
 
 -- the answer to what is heard on port p, with n ports: R2, then the reader's refusal, then N7
-unfoldable pub answer_by : ℕ → (Ident → Option Latest) → List Ident → ℕ → Heard → Reply
-answer_by n before names p (unread k) = pick (ltb p n) (Refused k) (Refused 2)
+unfoldable pub answer_by : ℕ → (Ident → Option Latest) → List Ident → ℕ → Heard → Answered
+answer_by n before names p (unread k) = pick (ltb p n) (Err k) (Err NoPort)
 answer_by n before names p (says a) =
-    pick (ltb p n) (answer_to (eqb a.seconds 0) (in_force (before (whose p a))) (room n (count_by before names) (whose p a))) (Refused 2)
+    pick (ltb p n) (answer_to (eqb a.seconds 0) (in_force (before (whose p a))) (room n (count_by before names) (whose p a))) (Err NoPort)
 
 -- what is heard on port p changes the latest of its own identity, by its answer, and no other
-unfoldable pub hearing : ℕ → Heard → Reply → Ident → Option Latest → Option Latest
+unfoldable pub hearing : ℕ → Heard → Answered → Ident → Option Latest → Option Latest
 hearing p (unread k) r w old = old
 hearing p (says a) r w old = pick (same w (whose p a)) (on_answer r a old) old
 
@@ -101,5 +101,5 @@ unfoldable pub held_of : ℕ → History → ℕ → Id → ℕ
 held_of n h q c = count_neighbours n h (chassis_is q c)
 
 -- the answer to what is heard on port p after h
-unfoldable pub answer : ℕ → History → ℕ → Heard → Reply
+unfoldable pub answer : ℕ → History → ℕ → Heard → Answered
 answer n h = answer_by n (latest n h) (named h)

@@ -1,19 +1,19 @@
 -- Who is a neighbour, in the words of demand 3: the latest recorded announcement, what came since, and the time that is left.
 -- What a frame was answered is taken from Past.antt; WordsLaws.antt shows that `latest` there computes all else.
-use Rattle.std.specs.Prelude.{ℕ, ◌+◌, ◌<◌, ◌≡◌, ◌≢◌, [], ◌∷◌, ◌++◌}
+use Rattle.std.specs.Prelude.{ℕ, ◌+◌, ◌<◌, ◌≡◌, ◌≢◌, [], ◌∷◌, ◌++◌, Ok, Err}
 use Rattle.rules.specs.Identity.{Ident}
 use Rattle.rules.specs.Events.{Announcement, unread, says, Event, frame, passed, lost, History, whose}
-use Rattle.rules.specs.declared.Reply.{Reply}
-use Rattle.rules.specs.declared.Reply.TheVariants.{Recorded, Refreshed, Gone, UnknownGoodbye, Refused}
+use Rattle.rules.specs.Answers.{Answered}
+use Rattle.rules.specs.declared.Reply.TheVariants.{Recorded, Refreshed, Gone, UnknownGoodbye}
 use Rattle.history.specs.Past.{answer}
 
 -- the answer says that an announcement was recorded, first or repeat
-abbrev pub Accepted : Reply → Type 0
-Accepted Recorded = Unit {0}
-Accepted Refreshed = Unit {0}
-Accepted Gone = ⊥
-Accepted UnknownGoodbye = ⊥
-Accepted (Refused k) = ⊥
+abbrev pub Accepted : Answered → Type 0
+Accepted (Ok Recorded) = Unit {0}
+Accepted (Ok Refreshed) = Unit {0}
+Accepted (Ok Gone) = ⊥
+Accepted (Ok UnknownGoodbye) = ⊥
+Accepted (Err k) = ⊥
 
 -- the event e, coming after h, is no goodbye of w, no recorded announcement of w and no lost link on its port
 abbrev pub Quiet : ℕ → Ident → Event → History → Type 0

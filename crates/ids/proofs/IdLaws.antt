@@ -1,19 +1,22 @@
 -- Laws of an ID: how many octets a right one has, and that the test for one ID is equality.
 -- Those above cite these and not the rules themselves.
 use Prim.Native.Nat.{ℕ, ◌≤◌}
-use mathlib.Core.Path.{◌≡◌, refl, sym}
-use mathlib.Core.List.{List}
+use mathlib.Core.Path.{◌≡◌, refl, sym, ◌∙◌}
+use mathlib.Core.List.{List, [], ◌∷◌, map}
 use mathlib.Core.Logic.{◌≢◌}
-use mathlib.Core.Bool.{Bool, true, false, true≢false}
+use mathlib.Core.Bool.{Bool, true, false, true≢false, ◌&&◌}
 use native.Mathlib.Omega.{arith}
 use borrow.Author.Tests.{eqb-true, eq-eqb, ne_eqb, leb-true}
-use lib.ListN.{length}
+use lib.ListN.{length, get_or}
 use lib.Dec.{eqb}
-use Rattle.tally.specs.Tests.{pick, all}
+use Rattle.std.specs.List.{list_all}
+use Rattle.tally.specs.Tests.{pick, both, all}
+use Rattle.tally.specs.Ranges.{all_below}
 use Rattle.tally.proofs.TestsLaws.{both_true, both_false, held}
+use Rattle.tally.proofs.RangesLaws.{all_listed}
 use Rattle.octets.specs.Address.{same_octets}
 use Rattle.octets.proofs.AddressLaws.{same_refl, same-equal, same-lengths}
-use Rattle.ids.specs.Id.{Id, id, address_ok, local_rules, chassis_ok, port_rules, port_ok, same_id}
+use Rattle.ids.specs.Id.{Id, id, address_ok, digit_ok, local_rules, chassis_ok, port_rules, port_ok, same_id}
 
 address-short : (n : ℕ) → address_ok n ≡ true → (1 ≤ n) × (n ≤ 64)
 address-short n e = go (eqb n 6) refl e
@@ -21,6 +24,18 @@ address-short n e = go (eqb n 6) refl e
     go : (b : Bool) → eqb n 6 ≡ b → pick b true (eqb n 8) ≡ true → (1 ≤ n) × (n ≤ 64)
     go true p q = let z = eqb-true n 6 p in (omega arith, omega arith)
     go false p q = let z = eqb-true n 8 q in (omega arith, omega arith)
+
+-- the characters asked one by one are those asked place by place
+list-all-is : (f : ℕ → Bool) (l : List ℕ) → list_all f l ≡ all (map f l)
+list-all-is f [] = refl
+list-all-is f (x ∷ l) = go (f x) (list-all-is f l)
+  where
+    go : (t : Bool) {p q : Bool} → p ≡ q → (t && p) ≡ both t q
+    go true e = e
+    go false e = refl
+
+pub all-digits : (l : List ℕ) → list_all digit_ok l ≡ all_below (λ i. digit_ok (get_or l i 0)) (length l)
+all-digits l = list-all-is digit_ok l ∙ sym (all_listed digit_ok l 0)
 
 -- a chassis has 1 to 64 octets behind its subtype, a port ID 1 to 255
 pub chassis-short : (d : Id) → chassis_ok d ≡ true → (1 ≤ length d.octets) × (length d.octets ≤ 64)

@@ -20,37 +20,20 @@ pub struct IdPart {
 fn is_address(n: usize) -> bool
     ensures { result ≡ address_ok n }
 {
-    if n == 6 {
-        return true;
-    }
-    n == 8
+    matches!(n, 6 | 8)
 }
 
 // A character of a local address: 0 to 9, A to F.
 fn is_digit(b: u8) -> bool
     ensures { result ≡ digit_ok b }
 {
-    if b < b'0' {
-        return false;
-    }
-    if b <= b'9' {
-        return true;
-    }
-    if b < b'A' {
-        return false;
-    }
-    b <= b'F'
+    matches!(b, b'0'..=b'9' | b'A'..=b'F')
 }
 
 fn all_digits(octets: &[u8]) -> bool
     ensures { result ≡ all_below (λ i. digit_ok (get_or octets.now i 0)) (length octets.now) }
 {
-    for i in 0..octets.len() {
-        if is_digit(octets[i]) {} else {
-            return false;
-        }
-    }
-    true
+    octets.iter().all(|&b| is_digit(b))
 }
 
 // 1 to 32 pairs of these characters.
@@ -58,54 +41,33 @@ fn is_local(octets: &[u8]) -> bool
     ensures { result ≡ all (local_rules octets.now) }
 {
     let n = octets.len();
-    if n < 2 {
-        return false;
-    }
-    if n > 64 {
-        return false;
-    }
-    if n % 2 != 0 {
-        return false;
-    }
-    all_digits(octets)
+    matches!(n, 2..=64) && n % 2 == 0 && all_digits(octets)
 }
 
 // The chassis (L3): an address, or a local one.
+#[tactic(auto, unfolding(crate::specs::Id::chassis_ok))]
 pub fn chassis_fits(subtype: u8, octets: &[u8]) -> bool
     ensures { result ≡ chassis_ok (id subtype octets.now) }
 {
-    if subtype == 4 {
-        return is_address(octets.len());
+    match subtype {
+        4 => is_address(octets.len()),
+        7 => is_local(octets),
+        _ => false,
     }
-    if subtype == 7 {
-        return is_local(octets);
-    }
-    false
 }
 
 // The port ID (L4).
+#[tactic(auto, unfolding(crate::specs::Id::port_ok))]
 pub fn port_fits(subtype: u8, octets: &[u8]) -> bool
     ensures { result ≡ port_ok (id subtype octets.now) }
 {
-    let n = octets.len();
-    if subtype < 1 {
-        return false;
-    }
-    if subtype > 7 {
-        return false;
-    }
-    if n < 1 {
-        return false;
-    }
-    n <= 255
+    matches!(subtype, 1..=7) && matches!(octets.len(), 1..=255)
 }
 
 // Whether an ID in one text and an ID in another are the same (N2).
+#[tactic(auto, unfolding(crate::specs::Id::same_id))]
 pub fn same_id(text: &[u8], a: IdPart, other: &[u8], b: IdPart) -> bool
     ensures { result ≡ same_id (id_meant text.now a) (id_meant other.now b) }
 {
-    if a.subtype != b.subtype {
-        return false;
-    }
-    same(text_of(text, a.octets), text_of(other, b.octets))
+    a.subtype == b.subtype && same(text_of(text, a.octets), text_of(other, b.octets))
 }

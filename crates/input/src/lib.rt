@@ -2,8 +2,12 @@
 // A file that cannot be opened is no failed read: standard error says why, and the program goes on without it.
 #![tactic(auto)]
 
-ghost use Rattle.std.specs.Prelude.{◌≤◌, length, IfOk, IfSome};
+ghost use Rattle.std.specs.Prelude.{◌≡◌, ◌≤◌, length, IfOk, IfSome};
+ghost use Rattle.input.specs.Stored.{room_of};
 
+mod record;
+
+pub use record::{number_at, split_behind};
 use std::fs::File;
 use std::io::{Read, Write};
 use std::rt::Files;
@@ -11,6 +15,14 @@ use std::{io, str};
 
 // More than the longest reason.
 const REASON: usize = 512;
+
+// Room for N octets. It is a call's result, so that no proof has to count them.
+#[tactic(auto, unfolding(crate::specs::Stored::room_of))]
+pub fn zeros<const N: usize>() -> [u8; N]
+    ensures { result ≡ room_of N }
+{
+    [0; N]
+}
 
 // Puts the front of an input at the front of the room; how many octets that is, never more than there is room for. Which octets they are no contract can say.
 pub fn read_front(input: impl Read + Drop, room: &mut [u8]) -> io::Result<usize>
@@ -29,10 +41,9 @@ fn say_unopened(rt: &impl Eprint, name: &str, error: io::Error) -> io::Result<()
     write!(rest, "{error}")?;
     let n = REASON.saturating_sub(rest.len());
     let reason = str::from_utf8(&room[..n]).unwrap_or("");
-    let words = match reason.split_once(" (os error ") {
-        Some((words, _)) => words,
-        None => reason,
-    };
+    let words = reason
+        .split_once(" (os error ")
+        .map_or(reason, |(words, _)| words);
     eprintln!(rt; "{name}: {words}")
 }
 

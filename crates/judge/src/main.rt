@@ -4,8 +4,11 @@
 
 use forms::put_form;
 use input::read_front;
-use reader::{Extent, Part, Reading, read_frame, text_of};
+use output::Output;
+use reader::read_frame;
+use reading::Reading;
 use std::io;
+use text::{Part, text_of};
 
 // The parts of a reading count from the octet behind the header (F1).
 const LLDPDU: Part = Part {
@@ -16,35 +19,40 @@ const LLDPDU: Part = Part {
 // More than the longest answer, whose port ID has 255 octets (L4).
 const ROOM: usize = 1024;
 
-fn put_reading(line: &mut [u8], lldpdu: &[u8], r: Reading) -> usize {
-    let d = r.description;
-    let chassis = d.chassis;
-    let port = d.port;
-    let verdict = if r.htip { 1 } else { 2 };
-    put_form(
-        line,
-        0,
-        b"chassis @\nport # ~\nseconds #\nhtip yes\n|chassis @\nport # ~\nseconds #\nhtip no\n",
-        verdict,
-        &[
-            chassis.subtype as usize,
-            chassis.octets.start,
-            chassis.octets.len,
-            port.subtype as usize,
-            port.octets.start,
-            port.octets.len,
-            d.seconds as usize,
-        ],
-        lldpdu,
-    )
+// A form's number is its place among the forms below.
+#[derive(Clone, Copy)]
+enum Form {
+    Htip = 1,
+    NoHtip,
+    Refused,
 }
 
-fn put_answer(line: &mut [u8], frame: &[u8]) -> usize {
-    let r = read_frame(frame);
-    let extent = r.extent;
-    match extent {
-        Extent::Refused(n) => put_form(line, 0, b"refused #\n", 1, &[n as usize], frame),
-        Extent::Octets(_) => put_reading(line, text_of(frame, LLDPDU), r),
+const FORMS: &[u8] =
+    b"chassis @\nport # ~\nseconds #\nhtip yes\n|chassis @\nport # ~\nseconds #\nhtip no\n|refused #\n";
+
+fn put(line: &mut Output, form: Form, values: &[usize], text: &[u8]) {
+    put_form(line, FORMS, form as usize, values, text);
+}
+
+fn put_reading(line: &mut Output, lldpdu: &[u8], r: Reading) {
+    let d = r.description;
+    let form = if r.htip { Form::Htip } else { Form::NoHtip };
+    let values = [
+        d.chassis.subtype as usize,
+        d.chassis.octets.start,
+        d.chassis.octets.len,
+        d.port.subtype as usize,
+        d.port.octets.start,
+        d.port.octets.len,
+        d.seconds as usize,
+    ];
+    put(line, form, &values, lldpdu);
+}
+
+fn put_answer(line: &mut Output, frame: &[u8]) {
+    match read_frame(frame) {
+        Ok(r) => put_reading(line, text_of(frame, LLDPDU), r),
+        Err(refusal) => put(line, Form::Refused, &[refusal as usize], frame),
     }
 }
 
@@ -52,10 +60,11 @@ fn put_answer(line: &mut [u8], frame: &[u8]) -> usize {
 fn main(rt: HostRuntime) -> io::Result<()> {
     let mut frame = [0u8; 1515];
     let n = read_front(rt.stdin(), &mut frame)?;
-    let mut line = [0u8; ROOM];
-    let end = put_answer(&mut line, text_of(&frame, Part { start: 0, len: n }));
+    let mut room = [0u8; ROOM];
+    let mut line = Output::new(&mut room);
+    put_answer(&mut line, &frame[..n]);
     // A pipe that nobody reads any more is no failure.
-    match rt.write_all(text_of(&line, Part { start: 0, len: end })) {
+    match rt.write_all(line.front()) {
         Err(e) if e.kind() == io::ErrorKind::BrokenPipe => Ok(()),
         written => written,
     }

@@ -1,23 +1,24 @@
 // What is printed (J2): numbers in decimal, octets in hex and a chassis, put into a lent line.
-// Every function takes any line and any place, answers the place behind what it put, and leaves out what does not fit.
+// Every function takes any line, and leaves out what does not fit.
 #![tactic(auto)]
 
 ghost use Rattle.std.specs.Prelude.{◌≡◌, ◌∷◌, ◌<◌};
-ghost use Rattle.output.specs.Output.{output_at, puts};
+ghost use Rattle.output.specs.Output.{Put};
 ghost use Rattle.line.specs.Hex.{digit_of, hex_of, hexes_or_stop, joined, chassis_shown};
 ghost use Rattle.line.specs.Decimal.{decimal};
 
-use output::{put_all, put_octet};
+use output::Output;
 
-// A number in decimal: the digits of the tenth part, then the last one.
-pub fn put_number(line: &mut [u8], at: usize, n: u64) -> usize
-    ensures { output_at line.new result ≡ puts (decimal n) (output_at line.old at) }
+// A number in decimal: the digits of the tenth part, then the last one. By hand, since what a lent line has no room for is left out octet by octet, and no `Display` says so.
+pub fn put_number(line: &mut Output, n: u64)
+    ensures { Put (decimal n) line.old line.new }
 {
     if n < 10 {
-        return put_octet(line, at, b'0' + n as u8);
+        line.put_octet(b'0' + n as u8);
+        return;
     }
-    let end = put_number(line, at, n / 10);
-    put_octet(line, end, b'0' + (n % 10) as u8)
+    put_number(line, n / 10);
+    line.put_octet(b'0' + (n % 10) as u8);
 }
 
 // The digits from 10 on are letters.
@@ -31,55 +32,57 @@ fn digit_of(n: u8) -> u8
 }
 
 // An octet as two capital hex digits.
-fn put_hex(line: &mut [u8], at: usize, b: u8) -> usize
-    ensures { output_at line.new result ≡ puts (hex_of b) (output_at line.old at) }
+#[tactic(auto, unfolding(output::specs::Output::puts))]
+fn put_hex(line: &mut Output, b: u8)
+    ensures { Put (hex_of b) line.old line.new }
 {
-    let end = put_octet(line, at, digit_of(b / 16));
-    put_octet(line, end, digit_of(b % 16))
+    line.put_octet(digit_of(b / 16));
+    line.put_octet(digit_of(b % 16));
 }
 
 // Octets in hex one behind the other, or a full stop where there are none, as the stored answers of the tests have them.
-pub fn put_hexes(line: &mut [u8], at: usize, octets: &[u8]) -> usize
-    ensures { output_at line.new result ≡ puts (hexes_or_stop octets.now) (output_at line.old at) }
+pub fn put_hexes(line: &mut Output, octets: &[u8])
+    ensures { Put (hexes_or_stop octets.now) line.old line.new }
 {
-    if octets.len() == 0 {
-        return put_octet(line, at, b'.');
+    if octets.is_empty() {
+        line.put_octet(b'.');
+        return;
     }
-    let mut end = at;
-    for i in 0..octets.len() {
-        end = put_hex(line, end, octets[i]);
+    for &b in octets {
+        put_hex(line, b);
     }
-    end
 }
 
-fn put_dashed(line: &mut [u8], at: usize, b: u8) -> usize
-    ensures { output_at line.new result ≡ puts (45 ∷ hex_of b) (output_at line.old at) }
+#[tactic(auto, unfolding(output::specs::Output::puts))]
+fn put_dashed(line: &mut Output, b: u8)
+    ensures { Put (45 ∷ hex_of b) line.old line.new }
 {
-    let end = put_octet(line, at, b'-');
-    put_hex(line, end, b)
+    line.put_octet(b'-');
+    put_hex(line, b);
 }
 
 // Octets in hex, joined by `-`.
-pub fn put_joined(line: &mut [u8], at: usize, octets: &[u8]) -> usize
-    ensures { output_at line.new result ≡ puts (joined octets.now) (output_at line.old at) }
+pub fn put_joined(line: &mut Output, octets: &[u8])
+    ensures { Put (joined octets.now) line.old line.new }
 {
-    if octets.len() == 0 {
-        return at;
+    let Some((first, rest)) = octets.split_first() else {
+        return;
+    };
+    put_hex(line, *first);
+    for &b in rest {
+        put_dashed(line, b);
     }
-    let mut end = put_hex(line, at, octets[0]);
-    for i in 1..octets.len() {
-        end = put_dashed(line, end, octets[i]);
-    }
-    end
 }
 
 // A chassis (J2): with subtype 7 its octets are characters, behind the word `local`; with any other they are an address.
-pub fn put_chassis(line: &mut [u8], at: usize, subtype: usize, octets: &[u8]) -> usize
-    ensures { output_at line.new result ≡ puts (chassis_shown subtype octets.now) (output_at line.old at) }
+#[tactic(auto, unfolding(crate::specs::Hex::chassis_shown, output::specs::Output::puts))]
+pub fn put_chassis(line: &mut Output, subtype: usize, octets: &[u8])
+    ensures { Put (chassis_shown subtype octets.now) line.old line.new }
 {
     if subtype == 7 {
-        let end = put_all(line, at, b"local ");
-        return put_all(line, end, octets);
+        line.put_all(b"local ");
+        line.put_all(octets);
+    } else {
+        put_joined(line, octets);
     }
-    put_joined(line, at, octets)
 }

@@ -13,10 +13,7 @@ use octets::{octet, same_six, six};
 pub fn one_to_four(n: usize) -> bool
     ensures { result ≡ four_ok n }
 {
-    if n < 1 {
-        return false;
-    }
-    n <= 4
+    matches!(n, 1..=4)
 }
 
 // Link information (T7): n, interface type, m, port number, k, k addresses, and no octet more.
@@ -35,20 +32,19 @@ pub fn link_fits(part: &[u8]) -> bool
     part.len() == 7 + n + m + 6 * k
 }
 
-// Four octets from a place on as one number, the first lowest. Of a sum in this order the compiler makes one read.
+// Four octets from a place on as one number, the first lowest: in this order the compiler makes one read of them.
 fn four_at(s: &[u8], at: usize) -> u64
     requires { at + 4 ≤ length s.now }
     ensures { result ≡ get_or s.now at 0 + get_or s.now (at + 1) 0 * 256 + get_or s.now (at + 2) 0 * 65536 + get_or s.now (at + 3) 0 * 16777216 }
 {
-    s[at] as u64 + s[at + 1] as u64 * 256 + s[at + 2] as u64 * 65536 + s[at + 3] as u64 * 16777216
+    u64::from(u32::from_le_bytes([s[at], s[at + 1], s[at + 2], s[at + 3]]))
 }
 
 // An address as one number, its first octet lowest.
 fn number_of(a: [u8; 6]) -> u64
     ensures { result ≡ get_or a 0 0 + get_or a 1 0 * 256 + get_or a 2 0 * 65536 + get_or a 3 0 * 16777216 + get_or a 4 0 * 4294967296 + get_or a 5 0 * 1099511627776 }
 {
-    let low = a[0] as u64 + a[1] as u64 * 256 + a[2] as u64 * 65536 + a[3] as u64 * 16777216;
-    low + (a[4] as u64 + a[5] as u64 * 256) * 4294967296
+    u64::from_le_bytes([a[0], a[1], a[2], a[3], a[4], a[5], 0, 0])
 }
 
 // Whether the address stands at a place. Two octets in front of it are read with it and dropped: eight are one read, six are two.
@@ -62,7 +58,7 @@ fn same_at(s: &[u8], at: usize, address: [u8; 6]) -> bool
 }
 
 // How many of the addresses in a row are passed, four a turn, because none of them is the one asked for. How many decides nothing but the time:
-// what is left is looked at one by one.
+// what is left is looked at one by one. The turns of four are measured, and edits hold them (turn_past_the_last_address, fourth_of_a_turn_unseen).
 fn passed(s: &[u8], first: usize, count: usize, address: [u8; 6]) -> usize
     requires le_first { 2 ≤ first }
     requires count_in_bounds { first + 6 * count ≤ length s.now }
@@ -120,12 +116,9 @@ fn one_by_one(s: &[u8], first: usize, count: usize, address: [u8; 6]) -> bool
 pub fn among(s: &[u8], first: u16, count: u8, address: [u8; 6]) -> bool
     ensures { result ≡ among_of s.now first count address }
 {
-    let from = first as usize;
-    let k = count as usize;
-    if from < 2 {
-        return one_by_one(s, from, k, address);
-    }
-    if s.len() < from + 6 * k {
+    let from = usize::from(first);
+    let k = usize::from(count);
+    if from < 2 || s.len() < from + 6 * k {
         return one_by_one(s, from, k, address);
     }
     in_row(s, from, k, address)

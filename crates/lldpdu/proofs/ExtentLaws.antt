@@ -10,42 +10,39 @@ use borrow.Author.Tests.{eqb-true}
 use lib.ListN.{length, take, drop, get_or, length-drop}
 use lib.Seq.{get_or-drop, length-take-le}
 use lib.Dec.{eqb}
+use Rattle.std.specs.Prelude.{Option, Some, None, Result, Ok, Err}
 use Rattle.tally.specs.Tests.{pick}
 use Rattle.tally.proofs.TestsLaws.{both_true}
 use Rattle.octets.specs.Header.{length_in}
-use Rattle.walk.specs.Walk.{head_of}
+use Rattle.walk.specs.Walk.{Extent, header, head_of}
 use Rattle.lldpdu.specs.Extent.{length_at, port_place, seconds_place, id_in, is_chassis, is_port, seconds_ok, need, rest_of, behind_port, behind_chassis, extent_of}
-use Rattle.lldpdu.specs.Outline.{outline_at, outline_of}
+use Rattle.lldpdu.specs.Outline.{outline_at, outline_of, extent_in}
 use Rattle.ids.specs.Id.{id, chassis_ok, port_ok}
-use Rattle.ids.proofs.IdLaws.{chassis-short, port-short}
+use Rattle.ids.proofs.IdLaws.{chassis-short, port-short, no-chassis, no-port}
 use Rattle.walk.proofs.WalkLaws.{whole, whole-fits}
 use Rattle.walk.specs.declared.Head.{Head}
-use Rattle.walk.specs.declared.Head.TheVariants.{Short, Whole}
-use Rattle.walk.specs.declared.Extent.{Extent}
-use Rattle.walk.specs.declared.Extent.TheVariants.{Refused, Octets}
+use Rattle.refusal.specs.declared.Refusal.{Refusal}
+use Rattle.refusal.specs.declared.Refusal.TheVariants.{NotAsDue}
 
-pub not-both : {A : Type 0} {n e : ℕ} → Refused n ≡ Octets e → A
-not-both q = let z : ◌≡◌ {A = ℕ} 0 1 = cc in absurd (omega arith)
-
--- the facts behind a number of octets
-pub record Needed (h : Head) (ok : ℕ → ℕ → Bool) (next : Extent) (e : ℕ) : Type 0 where
+-- the facts behind an answer that is no refusal
+pub record Needed {A : Type 0} (h : Option Head) (ok : ℕ → ℕ → Bool) (next : Result A Refusal) (e : A) : Type 0 where
   pub kind : ℕ
   pub len : ℕ
-  pub head : h ≡ Whole kind len
+  pub head : h ≡ Some (header kind len)
   pub passes : ok kind len ≡ true
-  pub onward : next ≡ Octets e
+  pub onward : next ≡ Ok e
 
-pub needed : (h : Head) (ok : ℕ → ℕ → Bool) (next : Extent) (e : ℕ) → need h ok next ≡ Octets e → Needed h ok next e
-needed Short ok next e q = not-both q
-needed (Whole kind len) ok next e q = go (ok kind len) refl q
+pub needed : {A : Type 0} (h : Option Head) (ok : ℕ → ℕ → Bool) (next : Result A Refusal) (e : A) → need h ok next ≡ Ok e → Needed h ok next e
+needed None ok next e q = cc
+needed (Some x) ok next e q = go (ok x.kind x.len) refl q
   where
-    go : (b : Bool) → ok kind len ≡ b → pick b next (Refused 4) ≡ Octets e → Needed (Whole kind len) ok next e
-    go true p w = record { kind = kind; len = len; head = refl; passes = p; onward = w }
-    go false p w = not-both w
+    go : (b : Bool) → ok x.kind x.len ≡ b → pick b next (Err NotAsDue) ≡ Ok e → Needed (Some x) ok next e
+    go true p w = record { kind = x.kind; len = x.len; head = refl; passes = p; onward = w }
+    go false p w = cc
 
 -- A whole TLV at a place
 
-module _ (s : List ℕ) (at : ℕ) {kind len : ℕ} (e : head_of (drop at s) ≡ Whole kind len) where
+module _ (s : List ℕ) (at : ℕ) {kind len : ℕ} (e : head_of (drop at s) ≡ Some (header kind len)) where
   pub length-at : len ≡ length_at s at
   length-at =
       sym (whole (drop at s) kind len e).len_is
@@ -77,24 +74,36 @@ module _ (s : List ℕ) (at : ℕ) {len : ℕ} (n : len ≡ length_at s at) wher
       let m : end - (at + 3) ≡ length_at s at - 1 = omega (arith, n, e) in
       ap (λ (k : ℕ). id (get_or s (at + 2) 0) (take k (drop (at + 3) s))) m
 
-  pub id-none : len ≡ 0 → length (id_in s at).octets ≡ 0
-  id-none e = ap (λ (k : ℕ). length (take (k - 1) (drop (at + 3) s))) (sym n ∙ e)
+-- without a subtype there is no ID, of a chassis or of a port
+id-none : (s : List ℕ) (at : ℕ) → length_at s at ≡ 0 → length (id_in s at).octets ≡ 0
+id-none s at e = ap (λ (k : ℕ). length (take (k - 1) (drop (at + 3) s))) e
+
+pub bare-chassis : (s : List ℕ) → length_at s 0 ≡ 0 → chassis_ok (id_in s 0) ≡ false
+bare-chassis s e = no-chassis (id_in s 0) (id-none s 0 e)
+
+pub bare-port : (s : List ℕ) {at : ℕ} → at ≡ port_place s → length_at s at ≡ 0 → port_ok (id_in s (port_place s)) ≡ false
+bare-port s p e = no-port (id_in s (port_place s)) (id-none s (port_place s) (ap (length_at s) (sym p) ∙ e))
+
+pub ruleset bare = (bare-chassis, bare-port, id-part)
 
 -- A valid LLDPDU of e octets
 
-pub record Good (s : List ℕ) (e : ℕ) : Type 0 where
-  pub first : head_of (drop 0 s) ≡ Whole 1 (length_at s 0)
-  pub chassis : chassis_ok (id_in s 0) ≡ true
-  pub second : head_of (drop (port_place s) s) ≡ Whole 2 (length_at s (port_place s))
-  pub port : port_ok (id_in s (port_place s)) ≡ true
-  pub third : head_of (drop (seconds_place s) s) ≡ Whole 3 2
-  pub rest : (rest_of s).extent ≡ Octets e
+abbrev pub some_header : ℕ → ℕ → Option Head
+some_header kind len = Some (header kind len)
 
-pub reads : (s : List ℕ) (e : ℕ) → Good s e → extent_of s ≡ Octets e
+pub record Good (s : List ℕ) (e : ℕ) : Type 0 where
+  pub first : head_of (drop 0 s) ≡ Some (header 1 (length_at s 0))
+  pub chassis : chassis_ok (id_in s 0) ≡ true
+  pub second : head_of (drop (port_place s) s) ≡ Some (header 2 (length_at s (port_place s)))
+  pub port : port_ok (id_in s (port_place s)) ≡ true
+  pub third : head_of (drop (seconds_place s) s) ≡ Some (header 3 2)
+  pub rest : (rest_of s).extent ≡ Ok e
+
+pub reads : (s : List ℕ) (e : ℕ) → Good s e → extent_of s ≡ Ok e
 unfolding extent_of behind_chassis behind_port
 reads s e g = rw (g.first, g.chassis, g.second, g.port, g.third, g.rest)
 
-pub good : (s : List ℕ) (e : ℕ) → extent_of s ≡ Octets e → Good s e
+pub good : (s : List ℕ) (e : ℕ) → extent_of s ≡ Ok e → Good s e
 unfolding extent_of behind_chassis behind_port
 good s e q =
     let a = needed (head_of (drop 0 s)) (λ kind len. is_chassis s kind) (behind_chassis s) e q in
@@ -104,19 +113,19 @@ good s e q =
     let y = both_true (eqb b.kind 2) (port_ok (id_in s (port_place s))) b.passes in
     let z = both_true (eqb c.kind 3) (eqb c.len 2) c.passes in
     record {
-      first = a.head ∙ ap₂ Whole (eqb-true a.kind 1 x.0) (length-at s 0 a.head);
+      first = a.head ∙ ap₂ some_header (eqb-true a.kind 1 x.0) (length-at s 0 a.head);
       chassis = x.1;
-      second = b.head ∙ ap₂ Whole (eqb-true b.kind 2 y.0) (length-at s (port_place s) b.head);
+      second = b.head ∙ ap₂ some_header (eqb-true b.kind 2 y.0) (length-at s (port_place s) b.head);
       port = y.1;
-      third = c.head ∙ ap₂ Whole (eqb-true c.kind 3 z.0) (eqb-true c.len 2 z.1);
+      third = c.head ∙ ap₂ some_header (eqb-true c.kind 3 z.0) (eqb-true c.len 2 z.1);
       rest = c.onward;
     }
 
 -- an outline has the extent that it is made for, and so that of its LLDPDU
-pub extent-at : (x : Extent) (l : List ℕ) → (outline_at x l).extent ≡ x
-extent-at (Refused k) l = refl
-extent-at (Octets e) l = refl
+pub extent-at : (x : Extent) (l : List ℕ) → extent_in (outline_at x l) ≡ x
+extent-at (Ok e) l = refl
+extent-at (Err r) l = refl
 
-pub outline-extent : (l : List ℕ) → (outline_of l).extent ≡ extent_of l
+pub outline-extent : (l : List ℕ) → extent_in (outline_of l) ≡ extent_of l
 unfolding outline_of
 outline-extent l = extent-at (extent_of l) l

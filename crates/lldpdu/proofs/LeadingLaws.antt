@@ -1,51 +1,49 @@
 -- Laws of the first three TLVs as the code judges them: one by what its header is, what is known behind them, and the outline put together.
 -- `front-refused` and `front-on` say that the extent is theirs, and then that of the walk.
-use Prim.Native.Nat.{ℕ, ◌+◌, ◌-◌, ◌≤◌, ◌<◌}
+use Prim.Native.Nat.{ℕ, ◌+◌, ◌≤◌, ◌<◌}
 use mathlib.Core.Path.{◌≡◌, refl, sym, ap, ◌∙◌}
 use mathlib.Core.List.{List}
 use mathlib.Core.Bool.{Bool, true, false}
 use native.Mathlib.Omega.{arith}
-use lib.ListN.{drop, get_or}
+use lib.ListN.{length, drop}
 use lib.Dec.{eqb}
 use Rattle.tally.specs.Tests.{pick}
 use Rattle.tally.proofs.TestsLaws.{both_true}
-use Rattle.octets.specs.Numbers.{pair_of}
-use Rattle.walk.specs.Walk.{head_of, walk}
-use Rattle.lldpdu.specs.Extent.{length_at, port_place, seconds_place, rest_place, id_at, id_in, is_chassis, is_port, seconds_ok, need, rest_of, behind_port, behind_chassis, extent_of}
-use Rattle.lldpdu.specs.Leading.{lead, leading_behind_port, leading_behind_chassis, leading_of, onward, front_of, Behind, Led}
-use Rattle.lldpdu.specs.Outline.{id_between, outline_at}
-use Rattle.lldpdu.proofs.ExtentLaws.{not-both, length-at, chassis-length, port-length, seconds-inside}
-use Rattle.text.specs.Part.{part}
+use Rattle.std.specs.Prelude.{Option, Some, None, Result, Ok, Err}
+use Rattle.refusal.specs.declared.Refusal.{Refusal}
+use Rattle.refusal.specs.declared.Refusal.TheVariants.{NotAsDue, RunsPast}
+use Rattle.walk.specs.Walk.{Extent, header, head_of, walk}
+use Rattle.lldpdu.specs.Extent.{length_at, port_place, seconds_place, rest_place, id_in, is_chassis, is_port, seconds_ok, need, rest_of, behind_port, behind_chassis, extent_of}
+use Rattle.lldpdu.specs.Leading.{leading, leading_behind_port, leading_behind_chassis, leading_of, onward, front_of}
+use Rattle.lldpdu.proofs.ExtentLaws.{Needed, needed, length-at, chassis-length, port-length, seconds-inside}
 use Rattle.ids.specs.Id.{chassis_ok, port_ok}
-use Rattle.ids.specs.declared.IdPart.{IdPart}
 use Rattle.walk.proofs.WalkLaws.{whole-fits}
 use Rattle.walk.specs.declared.Head.{Head}
-use Rattle.walk.specs.declared.Head.TheVariants.{Short, Whole}
-use Rattle.walk.specs.declared.Extent.{Extent}
-use Rattle.walk.specs.declared.Extent.TheVariants.{Refused, Octets}
 use Rattle.lldpdu.specs.declared.leading.Leading.{Leading}
-use Rattle.lldpdu.specs.declared.leading.Leading.TheVariants as leading-is
 
--- One of the first three, by what the code has of its header h, and of its test
+-- what is known at TLV 3: where TLVs 2 and 3 begin, and that the IDs before it lie inside
+pub record Behind (s : List ℕ) (port at : ℕ) : Type 0 where
+  pub second : port ≡ port_place s
+  pub third : at ≡ seconds_place s
+  pub some : (1 ≤ length_at s 0) × (1 ≤ length_at s port)
+  pub inside : at ≤ length s
+  pub near : at < 2000
 
-module _ {h r : Head} (p : r ≡ h) (ok : ℕ → ℕ → Bool) (next : Leading) where
-  pub lead-short : r ≡ Short → leading-is.Refused 5 ≡ lead h ok next
-  lead-short e = rw (sym p ∙ e)
-
-  pub lead-whole : {kind len : ℕ} → r ≡ Whole kind len → {t b : Bool} → t ≡ ok kind len → t ≡ b
-      → pick b next (leading-is.Refused 4) ≡ lead h ok next
-  lead-whole e q i = rw (sym p ∙ e, sym q ∙ i)
+-- and behind it: that it has its four octets
+pub record Led (s : List ℕ) (port at : ℕ) : Type 0 where
+  pub behind : Behind s port at
+  pub room : at + 4 ≤ length s
 
 -- What the code has in hand of TLVs 1 and 2: where the next one begins, and that no sum wraps
 module _ (s : List ℕ) {kind len : ℕ} where
-  pub behind-first : head_of (drop 0 s) ≡ Whole kind len → is_chassis s kind ≡ true → (2 + len ≡ port_place s) × ((1 ≤ length_at s 0) × (2 + len < 1000))
+  pub behind-first : head_of (drop 0 s) ≡ Some (header kind len) → is_chassis s kind ≡ true → (2 + len ≡ port_place s) × ((1 ≤ length_at s 0) × (2 + len < 1000))
   unfolding port_place
   behind-first e q =
       let n = length-at s 0 e in
       let h = chassis-length s 0 e (both_true (eqb kind 1) (chassis_ok (id_in s 0)) q).1 in
       (ap (λ (k : ℕ). 2 + k) n, (omega arith, omega (arith, n)))
 
-  pub behind-second : {at : ℕ} → at ≡ port_place s → 1 ≤ length_at s 0 → at < 1000 → head_of (drop at s) ≡ Whole kind len → is_port s kind ≡ true
+  pub behind-second : {at : ℕ} → at ≡ port_place s → 1 ≤ length_at s 0 → at < 1000 → head_of (drop at s) ≡ Some (header kind len) → is_port s kind ≡ true
       → Behind s at (at + 2 + len)
   unfolding seconds_place
   behind-second {at} p c near e q =
@@ -59,95 +57,97 @@ module _ (s : List ℕ) {kind len : ℕ} where
         near = omega (arith, n);
       }
 
--- an ID that reaches to the end of its TLV
-between_is : (s : List ℕ) (at : ℕ) {end : ℕ} → end ≡ at + 2 + length_at s at → id_between s at end ≡ id_at s at
-between_is s at {end} e =
-    let n : end - at - 3 ≡ length_at s at - 1 = omega (arith, e) in
-    ap (λ (k : ℕ). record { subtype = get_or s (at + 2) 0; octets = part (at + 3) k }) n
-
--- at TLV 3: the places as sums, and the outline that the code puts together
+-- at TLV 3: the places as sums
 module _ (s : List ℕ) {port at : ℕ} (b : Behind s port at) where
   pub behind-sums : (port ≡ 2 + length_at s 0) × (at ≡ port + 2 + length_at s port)
   unfolding port_place seconds_place
   behind-sums = (b.second, b.third ∙ ap (λ (k : ℕ). k + 2 + length_at s k) (sym b.second))
 
-  pub outline-is : (e : ℕ) {c p : IdPart} {n : ℕ} → c ≡ id_between s 0 port → p ≡ id_between s port at → n ≡ pair_of (get_or s (at + 2) 0) (get_or s (at + 3) 0)
-      → record { extent = Octets e; chassis = c; port = p; seconds = n } ≡ outline_at (Octets e) s
-  outline-is e x y z =
-      let c = x ∙ between_is s 0 behind-sums.0 in
-      let p = y ∙ between_is s port behind-sums.1 ∙ ap (id_at s) b.second in
-      let n = z ∙ ap (λ (k : ℕ). pair_of (get_or s (k + 2) 0) (get_or s (k + 3) 0)) b.third in
-      λ i. record { extent = Octets e; chassis = c i; port = p i; seconds = n i }
+-- each of the three by itself, as it is met: it runs past the end, or its test decides
+module _ (s : List ℕ) where
+  pub first-short : head_of (drop 0 s) ≡ None → leading_of s ≡ Err RunsPast
+  unfolding leading_of
+  first-short e = rw e
 
--- the header at a place, where the place is the one that is named
-pub head-there : (s : List ℕ) {at p : ℕ} {h : Head} → h ≡ head_of (drop at s) → at ≡ p → h ≡ head_of (drop p s)
-head-there s e q = e ∙ ap (λ (n : ℕ). head_of (drop n s)) q
+  pub second-short : {at : ℕ} → at ≡ port_place s → head_of (drop at s) ≡ None → leading_behind_chassis s ≡ Err RunsPast
+  unfolding leading_behind_chassis
+  second-short p e =
+      let e : head_of (drop (port_place s) s) ≡ None = rw (sym p) e in
+      rw e
+
+  pub third-short : {at : ℕ} → at ≡ seconds_place s → head_of (drop at s) ≡ None → leading_behind_port s ≡ Err RunsPast
+  unfolding leading_behind_port
+  third-short p e =
+      let e : head_of (drop (seconds_place s) s) ≡ None = rw (sym p) e in
+      rw e
+
+  module _ {h : Head} {t b : Bool} where
+    pub first-judged : head_of (drop 0 s) ≡ Some h → t ≡ is_chassis s h.kind → t ≡ b → leading_of s ≡ pick b (leading_behind_chassis s) (Err NotAsDue)
+    unfolding leading_of
+    first-judged e q w = rw (e, sym q ∙ w)
+
+    pub second-judged : {at : ℕ} → at ≡ port_place s → head_of (drop at s) ≡ Some h → t ≡ is_port s h.kind → t ≡ b
+        → leading_behind_chassis s ≡ pick b (leading_behind_port s) (Err NotAsDue)
+    unfolding leading_behind_chassis
+    second-judged p e q w =
+        let e : head_of (drop (port_place s) s) ≡ Some h = rw (sym p) e in
+        rw (e, sym q ∙ w)
+
+    pub third-judged : {at : ℕ} → at ≡ seconds_place s → head_of (drop at s) ≡ Some h → t ≡ seconds_ok h.kind h.len → t ≡ b
+        → leading_behind_port s ≡ pick b (Ok (leading (port_place s) (seconds_place s))) (Err NotAsDue)
+    unfolding leading_behind_port
+    third-judged p e q w =
+        let e : head_of (drop (seconds_place s) s) ≡ Some h = rw (sym p) e in
+        rw (e, sym q ∙ w)
 
 -- All three, and what is behind them
 
--- the facts behind the two places
-record Led-by (h : Head) (ok : ℕ → ℕ → Bool) (next : Leading) (port at : ℕ) : Type 0 where
-  pub kind : ℕ
-  pub len : ℕ
-  pub head : h ≡ Whole kind len
-  pub passes : ok kind len ≡ true
-  pub onward : next ≡ leading-is.At port at
-
-not-led : {A : Type 0} {n port at : ℕ} → leading-is.Refused n ≡ leading-is.At port at → A
-not-led q = let z : ◌≡◌ {A = ℕ} 0 1 = cc in absurd (omega arith)
-
-led-by : (h : Head) (ok : ℕ → ℕ → Bool) (next : Leading) (port at : ℕ) → lead h ok next ≡ leading-is.At port at → Led-by h ok next port at
-led-by Short ok next port at q = not-led q
-led-by (Whole kind len) ok next port at q = go (ok kind len) refl q
+need-lead : (h : Option Head) (ok : ℕ → ℕ → Bool) (next : Result Leading Refusal) (x : Extent) {y : Extent} → y ≡ onward next x
+    → need h ok y ≡ onward (need h ok next) x
+need-lead None ok next x e = refl
+need-lead (Some h) ok next x {y} e = go (ok h.kind h.len)
   where
-    go : (b : Bool) → ok kind len ≡ b → pick b next (leading-is.Refused 4) ≡ leading-is.At port at → Led-by (Whole kind len) ok next port at
-    go true p w = record { kind = kind; len = len; head = refl; passes = p; onward = w }
-    go false p w = not-led w
-
-need-lead : (h : Head) (ok : ℕ → ℕ → Bool) (next : Leading) (x : Extent) {y : Extent} → y ≡ onward next x → need h ok y ≡ onward (lead h ok next) x
-need-lead Short ok next x e = refl
-need-lead (Whole kind len) ok next x {y} e = go (ok kind len)
-  where
-    go : (b : Bool) → pick b y (Refused 4) ≡ onward (pick b next (leading-is.Refused 4)) x
+    go : (b : Bool) → pick b y (Err NotAsDue) ≡ onward (pick b next (Err NotAsDue)) x
     go true = e
     go false = refl
 
 module _ (s : List ℕ) where
-  extent-is : extent_of s ≡ onward (leading_of s) (rest_of s).extent
+  pub extent-onward : extent_of s ≡ onward (leading_of s) (rest_of s).extent
   unfolding extent_of behind_chassis behind_port leading_of leading_behind_chassis leading_behind_port
-  extent-is =
+  extent-onward =
       let x = (rest_of s).extent in
       need-lead (head_of (drop 0 s)) (λ kind len. is_chassis s kind) (leading_behind_chassis s) x
       (need-lead (head_of (drop (port_place s) s)) (λ kind len. is_port s kind) (leading_behind_port s) x
-      (need-lead (head_of (drop (seconds_place s) s)) seconds_ok (leading-is.At (port_place s) (seconds_place s)) x refl))
+      (need-lead (head_of (drop (seconds_place s) s)) seconds_ok (Ok (leading (port_place s) (seconds_place s))) x refl))
 
-  -- walked or not, the first three come first
-  either_is : (walked : Bool) → pick walked (extent_of s) (front_of s) ≡ onward (leading_of s) (pick walked (rest_of s).extent (Octets (rest_place s)))
+  -- a refusal of the first three is that of the whole
+  pub lead-refused : {r : Refusal} → leading_of s ≡ Err r → extent_of s ≡ Err r
+  lead-refused e = extent-onward ∙ rw e
+
+  pub lead-refused-front : {r : Refusal} → leading_of s ≡ Err r → front_of s ≡ Err r
   unfolding front_of
-  either_is true = extent-is
-  either_is false = refl
+  lead-refused-front e = rw e
 
-  pub lead-refused : (walked : Bool) {n : ℕ} → leading_of s ≡ leading-is.Refused n → pick walked (extent_of s) (front_of s) ≡ Refused n
-  lead-refused walked e = either_is walked ∙ ap (λ (l : Leading). onward l (pick walked (rest_of s).extent (Octets (rest_place s)))) e
-
-  module _ {port at : ℕ} (e : leading_of s ≡ leading-is.At port at) where
+  module _ {l : Leading} (e : leading_of s ≡ Ok l) where
     -- each of the three in turn
-    first : Led-by (head_of (drop 0 s)) (λ kind len. is_chassis s kind) (leading_behind_chassis s) port at
+    first : Needed (head_of (drop 0 s)) (λ kind len. is_chassis s kind) (leading_behind_chassis s) l
     unfolding leading_of
-    first = led-by (head_of (drop 0 s)) (λ kind len. is_chassis s kind) (leading_behind_chassis s) port at e
+    first = needed (head_of (drop 0 s)) (λ kind len. is_chassis s kind) (leading_behind_chassis s) l e
 
-    second : Led-by (head_of (drop (port_place s) s)) (λ kind len. is_port s kind) (leading_behind_port s) port at
+    second : Needed (head_of (drop (port_place s) s)) (λ kind len. is_port s kind) (leading_behind_port s) l
     unfolding leading_behind_chassis
-    second = led-by (head_of (drop (port_place s) s)) (λ kind len. is_port s kind) (leading_behind_port s) port at first.onward
+    second = needed (head_of (drop (port_place s) s)) (λ kind len. is_port s kind) (leading_behind_port s) l first.onward
 
-    third : Led-by (head_of (drop (seconds_place s) s)) seconds_ok (leading-is.At (port_place s) (seconds_place s)) port at
+    third : Needed (head_of (drop (seconds_place s) s)) seconds_ok (Ok (leading (port_place s) (seconds_place s))) l
     unfolding leading_behind_port
-    third = led-by (head_of (drop (seconds_place s) s)) seconds_ok (leading-is.At (port_place s) (seconds_place s)) port at second.onward
+    third = needed (head_of (drop (seconds_place s) s)) seconds_ok (Ok (leading (port_place s) (seconds_place s))) l second.onward
 
-    places : (port_place s ≡ port) × (seconds_place s ≡ at)
-    places = let q = third.onward in (cc, cc)
+    pub places : (port_place s ≡ l.port) × (seconds_place s ≡ l.seconds)
+    places =
+        let q : leading (port_place s) (seconds_place s) ≡ l = (cc (third.onward)) in
+        (ap (λ (x : Leading). x.port) q, ap (λ (x : Leading). x.seconds) q)
 
-    pub led : Led s port at
+    pub led : Led s l.port l.seconds
     led =
         let f = behind-first s first.head first.passes in
         let b = behind-second s refl f.1.0 (omega (arith, f)) second.head second.passes in
@@ -164,27 +164,36 @@ module _ (s : List ℕ) where
           room = omega (arith, n, places.1);
         }
 
-    pub lead-on : (walked : Bool) {x : Extent} → x ≡ pick walked (walk (drop (at + 4) s) 0 (at + 4)).extent (Octets (at + 4))
-        → pick walked (extent_of s) (front_of s) ≡ x
-    lead-on walked q =
-        either_is walked
-        ∙ ap (λ (l : Leading). onward l (pick walked (rest_of s).extent (Octets (rest_place s)))) e
-        ∙ ap (λ (n : ℕ). pick walked (walk (drop (n + 4) s) 0 (n + 4)).extent (Octets (n + 4))) places.1
-        ∙ sym q
+    -- TLV 3 is there
+    pub led-place : l.seconds ≡ seconds_place s
+    led-place = led.behind.third
+
+    pub led-room : l.seconds + 4 ≤ length s
+    led-room = led.room
+
+    -- behind it the walk decides
+    pub lead-on : extent_of s ≡ (walk (drop (l.seconds + 4) s) 0 (l.seconds + 4)).extent
+    lead-on = extent-onward ∙ rw (e, places.1)
+
+    pub lead-on-front : front_of s ≡ Ok (l.seconds + 4)
+    unfolding front_of
+    lead-on-front = rw (e, places.1)
+
+pub ruleset leads = (lead-refused, lead-refused-front, led-place, led-room, lead-on, lead-on-front)
 
 -- For who goes on behind the first three: their refusal is the extent, and behind the place that they give the walk decides
-pub front-refused : (s : List ℕ) {n : ℕ} → front_of s ≡ Refused n → extent_of s ≡ Refused n
+pub front-refused : (s : List ℕ) {r : Refusal} → front_of s ≡ Err r → extent_of s ≡ Err r
 unfolding front_of
-front-refused s {n} e = go (leading_of s) refl e
+front-refused s {r} e = go (leading_of s) refl e
   where
-    go : (l : Leading) → leading_of s ≡ l → onward l (Octets (rest_place s)) ≡ Refused n → extent_of s ≡ Refused n
-    go (leading-is.Refused m) q w = lead-refused s true q ∙ w
-    go (leading-is.At port at) q w = not-both (sym w)
+    go : (l : Result Leading Refusal) → leading_of s ≡ l → onward l (Ok (rest_place s)) ≡ Err r → extent_of s ≡ Err r
+    go (Err m) q w = lead-refused s q ∙ w
+    go (Ok l) q w = cc
 
-pub front-on : (s : List ℕ) {from : ℕ} → front_of s ≡ Octets from → (from ≡ rest_place s) × (extent_of s ≡ (rest_of s).extent)
+pub front-on : (s : List ℕ) {from : ℕ} → front_of s ≡ Ok from → (from ≡ rest_place s) × (extent_of s ≡ (rest_of s).extent)
 unfolding front_of
 front-on s {from} e = go (leading_of s) refl e
   where
-    go : (l : Leading) → leading_of s ≡ l → onward l (Octets (rest_place s)) ≡ Octets from → (from ≡ rest_place s) × (extent_of s ≡ (rest_of s).extent)
-    go (leading-is.Refused m) q w = not-both w
-    go (leading-is.At port at) q w = (cc, extent-is s ∙ ap (λ (l : Leading). onward l (rest_of s).extent) q)
+    go : (l : Result Leading Refusal) → leading_of s ≡ l → onward l (Ok (rest_place s)) ≡ Ok from → (from ≡ rest_place s) × (extent_of s ≡ (rest_of s).extent)
+    go (Err m) q w = absurd (cc)
+    go (Ok l) q w = (cc, extent-onward s ∙ rw q)

@@ -12,26 +12,26 @@ use Rattle.tally.specs.Tests.{pick, both, either}
 use Rattle.tally.specs.Due.{first_due}
 use Rattle.tally.proofs.TestsLaws.{above-0}
 use Rattle.octets.specs.Header.{kind_in, length_in}
-use Rattle.walk.specs.Walk.{head_of, step_of, on_step, walk, Walked}
+use Rattle.std.specs.Prelude.{Option, Some, None, Ok, Err}
+use Rattle.refusal.specs.declared.Refusal.TheVariants.{NotAsDue, OutOfPlace}
+use Rattle.refusal.specs.Refusal.{number_of}
+use Rattle.walk.specs.Walk.{Extent, header, head_of, step_of, on_step, walk, Walked}
 use Rattle.walk.specs.declared.Head.{Head}
-use Rattle.walk.specs.declared.Head.TheVariants.{Short, Whole}
-use Rattle.walk.specs.declared.Step.TheVariants as step
-use Rattle.walk.specs.declared.Extent.{Extent}
-use Rattle.walk.specs.declared.Extent.TheVariants.{Refused, Octets}
+use Rattle.walk.specs.declared.Step.TheVariants.{End, Next}
 use Rattle.lldpdu.specs.Extent.{port_place, seconds_place, rest_place, is_chassis, is_port, seconds_ok, need, rest_of, behind_port, behind_chassis, extent_of}
 use Rattle.lldpdu.specs.Rows.{runs_past, fails, tlv_rows, later_ok, later_rows, rows_of}
 
 -- an extent's refusal, or the number that is due behind it
 abbrev pub due_in : Extent → ℕ → ℕ
-due_in (Refused n) rest = n
-due_in (Octets e) rest = rest
+due_in (Ok e) rest = rest
+due_in (Err r) rest = number_of r
 
-need-rows : (h : Head) (ok : ℕ → ℕ → Bool) (next : Extent) (rest : ℕ) {due : ℕ}
+need-rows : (h : Option Head) (ok : ℕ → ℕ → Bool) (next : Extent) (rest : ℕ) {due : ℕ}
     → due ≡ due_in next rest → pick (runs_past h) 5 (pick (fails h ok) 4 due) ≡ due_in (need h ok next) rest
-need-rows Short ok next rest e = refl
-need-rows (Whole kind len) ok next rest {due} e = go (ok kind len)
+need-rows None ok next rest e = refl
+need-rows (Some h) ok next rest {due} e = go (ok h.kind h.len)
   where
-    go : (b : Bool) → pick (not b) 4 due ≡ due_in (pick b next (Refused 4)) rest
+    go : (b : Bool) → pick (not b) 4 due ≡ due_in (pick b next (Err NotAsDue)) rest
     go true = e
     go false = refl
 
@@ -42,8 +42,8 @@ due-pick false x y = refl
 -- one later TLV, with the walk behind it
 later_rows_lem : (kind len : ℕ) (at : ℕ) (b : List ℕ) (walked : Walked) (more rest : List (Bool × ℕ))
     → first_due more ≡ due_in walked.extent (first_due rest)
-    → first_due (tlv_rows (Whole kind len) later_ok 6 (pick (both (eqb kind 0) (eqb len 0)) rest more))
-    ≡ due_in (on_step (step_of (Whole kind len) at) b walked).extent (first_due rest)
+    → first_due (tlv_rows (Some (header kind len)) later_ok 6 (pick (both (eqb kind 0) (eqb len 0)) rest more))
+    ≡ due_in (on_step (step_of (Some (header kind len)) at) b walked).extent (first_due rest)
 unfolding step_of
 later_rows_lem kind len at b walked more rest e =
     rw (above-0 kind, due-pick (both (eqb kind 0) (eqb len 0)) rest more)
@@ -51,7 +51,7 @@ later_rows_lem kind len at b walked more rest e =
   where
     go : (nul bare few org short : Bool) → (nul ≡ true → org ≡ false)
         → pick (not (not (either (both (not nul) few) (either (both nul (not bare)) (both org short))))) 6 (pick (both nul bare) (first_due rest) (first_due more))
-        ≡ due_in (on_step (pick nul (pick bare (step.End (at + 2)) (step.Refused 6)) (pick few (step.Refused 6) (pick (both org short) (step.Refused 6) (step.Next kind (at + 2) len)))) b walked).extent (first_due rest)
+        ≡ due_in (on_step (pick nul (pick bare (Ok (End (at + 2))) (Err OutOfPlace)) (pick few (Err OutOfPlace) (pick (both org short) (Err OutOfPlace) (Ok (Next kind (at + 2) len))))) b walked).extent (first_due rest)
     go true true few true short z = let q : ◌≡◌ {A = Bool} true false = z refl in cc
     go true true few false short z = refl
     go true false few org short z = refl
@@ -77,8 +77,8 @@ walk_rows (hi ∷ lo ∷ r) zero at rest = go (leb (length_in hi lo) (length r))
     more = walk r len (at + 2)
 
     go : (b : Bool) → first_due (later_rows r len rest) ≡ due_in more.extent (first_due rest)
-        → first_due (tlv_rows (pick b (Whole kind len) Short) later_ok 6 (pick (both (eqb kind 0) (eqb len 0)) rest (later_rows r len rest)))
-        ≡ due_in (on_step (step_of (pick b (Whole kind len) Short) at) (take len r) more).extent (first_due rest)
+        → first_due (tlv_rows (pick b (Some (header kind len)) None) later_ok 6 (pick (both (eqb kind 0) (eqb len 0)) rest (later_rows r len rest)))
+        ≡ due_in (on_step (step_of (pick b (Some (header kind len)) None) at) (take len r) more).extent (first_due rest)
     go true ih = later_rows_lem kind len at (take len r) more (later_rows r len rest) rest ih
     go false ih = refl
 

@@ -14,8 +14,6 @@ use Rattle.lldpdu.proofs.places.rest_place.Kinds as rest-place-kinds
 use Rattle.lldpdu.proofs.places.rest_place.Reads as rest-place
 use Rattle.lldpdu.proofs.outline.extent_of.Kinds as extent-of-kinds
 use Rattle.lldpdu.proofs.outline.extent_of.Reads as extent-of
-use Rattle.lldpdu.proofs.outline.refused_outline.Kinds as refused-outline-kinds
-use Rattle.lldpdu.proofs.outline.refused_outline.Reads as refused-outline
 use Rattle.lldpdu.proofs.outline.outline_front.Kinds as outline-front-kinds
 use Rattle.lldpdu.proofs.outline.outline_front.Reads as outline-front
 use Rattle.lldpdu.proofs.outline.outline_lldpdu.Kinds as outline-lldpdu-kinds
@@ -26,9 +24,6 @@ rest-place-sole κs a r q x y e f = e ∙ sym f
 
 pub extent-of-sole : Sole 1 extent-of-kinds.ps extent-of-kinds.r extent-of.Post
 extent-of-sole κs a r q x y e f = e ∙ sym f
-
-pub refused-outline-sole : Sole 0 refused-outline-kinds.ps refused-outline-kinds.r refused-outline.Post
-refused-outline-sole κs a r q x y e f = e ∙ sym f
 
 pub outline-front-sole : Sole 1 outline-front-kinds.ps outline-front-kinds.r outline-front.Post
 outline-front-sole κs a r q x y e f = e ∙ sym f

@@ -1,4 +1,4 @@
--- Octets behind the End TLV never matter (L8): a valid LLDPDU followed by anything else has the same extent and outline.
+-- Ok behind the End TLV never matter (L8): a valid LLDPDU followed by anything else has the same extent and outline.
 -- The walk first, then the first three TLVs, then the outline.
 use Prim.Native.Nat.{ℕ, zero, suc, ◌+◌, ◌-◌, ◌<◌, ◌≤◌}
 use mathlib.Core.Path.{◌≡◌, refl, sym, ap, ap₂, ◌∙◌}
@@ -13,32 +13,33 @@ use Rattle.tally.specs.Tests.{pick, both}
 use Rattle.octets.specs.Header.{kind_in, length_in}
 use Rattle.octets.specs.Numbers.{pair_of}
 use Rattle.octets.proofs.PartLaws.{part-of-part}
-use Rattle.walk.specs.Walk.{head_of, step_of, Walked, on_step, walk}
+use Rattle.std.specs.Prelude.{Some, None, Result, Ok, Err}
+use Rattle.refusal.specs.declared.Refusal.{Refusal}
+use Rattle.refusal.specs.declared.Refusal.TheVariants.{OutOfPlace}
+use Rattle.walk.specs.Walk.{header, head_of, step_of, Walked, on_step, walk}
 use Rattle.ids.specs.Id.{id_meant, chassis_ok, port_ok}
 use Rattle.lldpdu.specs.Extent.{length_at, port_place, seconds_place, rest_place, id_at, id_in, rest_of, extent_of}
 use Rattle.lldpdu.specs.Outline.{seconds_in, outline_of}
 use Rattle.walk.proofs.WalkLaws.{whole, is_whole, whole-fits}
-use Rattle.lldpdu.proofs.ExtentLaws.{not-both, chassis-length, port-length, Good, good, reads}
-use Rattle.walk.specs.declared.Head.TheVariants.{Short, Whole}
+use Rattle.lldpdu.proofs.ExtentLaws.{some_header, chassis-length, port-length, Good, good, reads}
 use Rattle.walk.specs.declared.Step.{Step}
-use Rattle.walk.specs.declared.Step.TheVariants as step
-use Rattle.walk.specs.declared.Extent.TheVariants.{Refused, Octets}
+use Rattle.walk.specs.declared.Step.TheVariants.{End, Next}
 
 -- The walk
 
 -- a step that ends has L = 0
-ended : (kind len at : ℕ) {end : ℕ} → step_of (Whole kind len) at ≡ step.End end → (len ≡ 0) × (end ≡ at + 2)
+ended : (kind len at : ℕ) {end : ℕ} → step_of (Some (header kind len)) at ≡ Ok (End end) → (len ≡ 0) × (end ≡ at + 2)
 unfolding step_of
 ended kind len at {end} e = go (eqb kind 0) (eqb len 0) refl (leb kind 3) (both (eqb kind 127) (ltb len 4)) e
   where
     go : (a b : Bool) → eqb len 0 ≡ b → (c d : Bool)
-        → pick a (pick b (step.End (at + 2)) (step.Refused 6)) (pick c (step.Refused 6) (pick d (step.Refused 6) (step.Next kind (at + 2) len))) ≡ step.End end
+        → pick a (pick b (Ok (End (at + 2))) (Err OutOfPlace)) (pick c (Err OutOfPlace) (pick d (Err OutOfPlace) (Ok (Next kind (at + 2) len)))) ≡ Ok (End end)
         → (len ≡ 0) × (end ≡ at + 2)
     go true true z c d q = (eqb-true len 0 z, cc)
-    go true false z c d q = let y : ◌≡◌ {A = ℕ} 0 1 = cc in absurd (omega arith)
-    go false b z true d q = let y : ◌≡◌ {A = ℕ} 0 1 = cc in absurd (omega arith)
-    go false b z false true q = let y : ◌≡◌ {A = ℕ} 0 1 = cc in absurd (omega arith)
-    go false b z false false q = let y : ◌≡◌ {A = ℕ} 0 1 = cc in absurd (omega arith)
+    go true false z c d q = absurd (cc)
+    go false b z true d q = absurd (cc)
+    go false b z false true q = absurd (cc)
+    go false b z false false q = absurd (cc)
 
 -- the walk over l is over after count octets, whatever follows them
 pub record Ends (l : List ℕ) (k at e : ℕ) : Type 0 where
@@ -54,24 +55,24 @@ part-long n m r t h i = le-leb n (length (take m r ++ t)) (omega (arith, length-
 take_part : (n m : ℕ) (r t : List ℕ) → n ≤ m → m ≤ length r → take n (take m r ++ t) ≡ take n r
 take_part n m r t h i = take-append-le n (take m r) t (omega (arith, length-take-le m r i)) ∙ take-take n m r h
 
-pub ends : (l : List ℕ) (k at e : ℕ) → (walk l k at).extent ≡ Octets e → Ends l k at e
+pub ends : (l : List ℕ) (k at e : ℕ) → (walk l k at).extent ≡ Ok e → Ends l k at e
 unfolding walk head_of step_of
-ends [] k at e q = not-both q
+ends [] k at e q = cc
 ends (x ∷ l) (suc k) at e q =
     let i = ends l k (at + 1) e q in
     record { count = suc i.count; place = omega arith; covers = omega arith; inside = omega arith; same = i.same }
-ends (hi ∷ []) zero at e q = not-both q
+ends (hi ∷ []) zero at e q = cc
 ends (hi ∷ lo ∷ r) zero at e q =
-    go (leb (length_in hi lo) (length r)) refl (step_of (Whole (kind_in hi) (length_in hi lo)) at) refl (ends r (length_in hi lo) (at + 2) e) q
+    go (leb (length_in hi lo) (length r)) refl (step_of (Some (header (kind_in hi) (length_in hi lo))) at) refl (ends r (length_in hi lo) (at + 2) e) q
   where
-    go : (b : Bool) → leb (length_in hi lo) (length r) ≡ b → (x : Step) → step_of (Whole (kind_in hi) (length_in hi lo)) at ≡ x
-        → ((walk r (length_in hi lo) (at + 2)).extent ≡ Octets e → Ends r (length_in hi lo) (at + 2) e)
-        → (on_step (step_of (pick b (Whole (kind_in hi) (length_in hi lo)) Short) at) (take (length_in hi lo) r) (walk r (length_in hi lo) (at + 2))).extent ≡ Octets e
+    go : (b : Bool) → leb (length_in hi lo) (length r) ≡ b → (x : Result Step Refusal) → step_of (Some (header (kind_in hi) (length_in hi lo))) at ≡ x
+        → ((walk r (length_in hi lo) (at + 2)).extent ≡ Ok e → Ends r (length_in hi lo) (at + 2) e)
+        → (on_step (step_of (pick b (Some (header (kind_in hi) (length_in hi lo))) None) at) (take (length_in hi lo) r) (walk r (length_in hi lo) (at + 2))).extent ≡ Ok e
         → Ends (hi ∷ lo ∷ r) zero at e
-    go false p x v ih w = not-both w
-    go true p (step.Refused n) v ih w = let d : Refused n ≡ Octets e = rw v at w in not-both d
-    go true p (step.End end) v ih w =
-        let d : Octets end ≡ Octets e = rw v at w in
+    go false p x v ih w = cc
+    go true p (Err n) v ih w = let d = rw v at w in cc
+    go true p (Ok (End end)) v ih w =
+        let d : Ok end ≡ Ok e = rw v at w in
         let n : end ≡ e = cc in
         let z = ended (kind_in hi) (length_in hi lo) at v in
         record {
@@ -81,7 +82,7 @@ ends (hi ∷ lo ∷ r) zero at e q =
           inside = omega arith;
           same = λ t. rw (le-leb (length_in hi lo) (length t) (omega (arith, z.0)), p, v);
         }
-    go true p (step.Next kind start len) v ih w =
+    go true p (Ok (Next kind start len)) v ih w =
         let i = ih (rw v at w) in
         record {
           count = suc (suc i.count);
@@ -111,7 +112,7 @@ module _ (s t : List ℕ) (e : ℕ) (h : e ≤ length s) where
       ∙ take-append-le n (drop a (take e s)) t (omega (arith, length-drop a (take e s)))
       ∙ part-of-part s 0 e a n {j = a} p (omega arith)
 
-  kept-head : (at kind len : ℕ) → head_of (drop at s) ≡ Whole kind len → at + 2 + len ≤ e → head_of (drop at (take e s ++ t)) ≡ Whole kind len
+  kept-head : (at kind len : ℕ) → head_of (drop at s) ≡ Some (header kind len) → at + 2 + len ≤ e → head_of (drop at (take e s ++ t)) ≡ Some (header kind len)
   kept-head at kind len q p =
       let u = take e s ++ t in
       let i = whole (drop at s) kind len q in
@@ -124,7 +125,7 @@ module _ (s t : List ℕ) (e : ℕ) (h : e ≤ length s) where
         fits = omega (arith, length-drop at u, length-append (take e s) t, length-take-le e s h);
       })
 
-  kept-walk : (at : ℕ) → (walk (drop at s) 0 at).extent ≡ Octets e → walk (drop at (take e s ++ t)) 0 at ≡ walk (drop at s) 0 at
+  kept-walk : (at : ℕ) → (walk (drop at s) 0 at).extent ≡ Ok e → walk (drop at (take e s ++ t)) 0 at ≡ walk (drop at s) 0 at
   kept-walk at q =
       let i = ends (drop at s) 0 at e q in
       let m = i.count in
@@ -223,21 +224,21 @@ module _ (s t : List ℕ) (e : ℕ) (g : Good s e) where
   stays-good =
       let m = same-front in
       record {
-        first = kept-head s t e z.whole-inside 0 1 (length_at s 0) g.first (omega (arith, z)) ∙ ap (Whole 1) (sym (same_length 0 (omega (arith, z))));
+        first = kept-head s t e z.whole-inside 0 1 (length_at s 0) g.first (omega (arith, z)) ∙ ap (some_header 1) (sym (same_length 0 (omega (arith, z))));
         chassis = ap chassis_ok m.chassis ∙ g.chassis;
         second =
             rw m.place
-            (kept-head s t e z.whole-inside (port_place s) 2 (length_at s (port_place s)) g.second (omega (arith, z)) ∙ ap (Whole 2) (sym (same_length (port_place s) (omega (arith, z)))));
+            (kept-head s t e z.whole-inside (port_place s) 2 (length_at s (port_place s)) g.second (omega (arith, z)) ∙ ap (some_header 2) (sym (same_length (port_place s) (omega (arith, z)))));
         port = rw m.place (ap port_ok m.port ∙ g.port);
         third = rw m.third (kept-head s t e z.whole-inside (seconds_place s) 3 2 g.third (omega (arith, z)));
         rest = ap (λ (w : Walked). w.extent) m.rest ∙ g.rest;
       }
 
-pub extent-stable : (s t : List ℕ) (e : ℕ) → extent_of s ≡ Octets e → extent_of (take e s ++ t) ≡ Octets e
+pub extent-stable : (s t : List ℕ) (e : ℕ) → extent_of s ≡ Ok e → extent_of (take e s ++ t) ≡ Ok e
 extent-stable s t e v = reads (take e s ++ t) e (stays-good s t e (good s e v))
 
 -- what a valid LLDPDU has in its first e octets
-module _ (s t : List ℕ) (e : ℕ) (v : extent_of s ≡ Octets e) where
+module _ (s t : List ℕ) (e : ℕ) (v : extent_of s ≡ Ok e) where
   abbrev u : List ℕ
   u = take e s ++ t
 

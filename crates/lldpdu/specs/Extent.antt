@@ -1,25 +1,20 @@
 -- The extent of an LLDPDU: the first three TLVs (L3 to L6), then the walk to End; refusals 4 to 6 front to back (R4 to R6, Q1).
 -- Each TLV begins where the one before it ends, by the L of that one.
-use Rattle.std.specs.Prelude.{ℕ, ◌+◌, ◌-◌, List, Bool, drop, get_or, eqb}
+use Rattle.std.specs.Prelude.{ℕ, ◌+◌, ◌-◌, List, Bool, drop, get_or, eqb, Option, Some, None, Result, Ok, Err}
 use Rattle.tally.specs.Tests.{pick, both}
 use Rattle.octets.specs.Header.{length_in}
 use Rattle.text.specs.Part.{part}
 use Rattle.ids.specs.Id.{Id, id_meant, chassis_ok, port_ok}
 use Rattle.ids.specs.declared.IdPart.{IdPart}
-use Rattle.walk.specs.Walk.{head_of, Walked, walk}
+use Rattle.refusal.specs.declared.Refusal.{Refusal}
+use Rattle.refusal.specs.declared.Refusal.TheVariants.{NotAsDue, RunsPast}
+use Rattle.walk.specs.Walk.{Extent, head_of, Walked, walk}
 use Rattle.walk.specs.declared.Head.{Head}
-use Rattle.walk.specs.declared.Head.TheVariants.{Short, Whole}
-use Rattle.walk.specs.declared.Extent.{Extent}
-use Rattle.walk.specs.declared.Extent.TheVariants.{Refused, Octets}
 
--- the refusal number of an extent, 0 where it is none; the number of octets, 0 where it is refused
-abbrev pub refusal_of_extent : Extent → ℕ
-refusal_of_extent (Refused n) = n
-refusal_of_extent (Octets e) = 0
-
+-- the number of octets, 0 where it is refused
 abbrev pub octets_in : Extent → ℕ
-octets_in (Refused n) = 0
-octets_in (Octets e) = e
+octets_in (Ok e) = e
+octets_in (Err r) = 0
 
 -- Where the first three stand, whatever they are
 
@@ -59,9 +54,9 @@ abbrev pub seconds_ok : ℕ → ℕ → Bool
 seconds_ok kind len = both (eqb kind 3) (eqb len 2)
 
 -- one of the first three TLVs: it runs past the end, 5; it is not as it should be, 4; else what follows decides
-abbrev pub need : Head → (ℕ → ℕ → Bool) → Extent → Extent
-need Short ok next = Refused 5
-need (Whole kind len) ok next = pick (ok kind len) next (Refused 4)
+abbrev pub need : {A : Type 0} → Option Head → (ℕ → ℕ → Bool) → Result A Refusal → Result A Refusal
+need None ok next = Err RunsPast
+need (Some h) ok next = pick (ok h.kind h.len) next (Err NotAsDue)
 
 -- the walk behind the first three
 abbrev pub rest_of : List ℕ → Walked

@@ -1,25 +1,24 @@
 -- Refusals 4, 5 and 6 as rows, TLV by TLV from the front (R4, R5, R6, Q1): 4 or 6 is asked only of a TLV that is whole, so 5 goes before them.
 -- A row is asked only where none before it is due; the first that is due is the refusal that extent_of gives (RowsLaws.antt).
-use Rattle.std.specs.Prelude.{ℕ, zero, suc, List, [], ◌∷◌, Bool, true, false, not, drop, leb, ltb, eqb}
+use Rattle.std.specs.Prelude.{ℕ, zero, suc, List, [], ◌∷◌, Bool, true, false, not, drop, leb, ltb, eqb, Option, Some, None}
 use Rattle.tally.specs.Tests.{pick, both, either}
 use Rattle.octets.specs.Header.{kind_in, length_in}
 use Rattle.walk.specs.Walk.{head_of}
 use Rattle.walk.specs.declared.Head.{Head}
-use Rattle.walk.specs.declared.Head.TheVariants.{Short, Whole}
 use Rattle.lldpdu.specs.Extent.{port_place, seconds_place, rest_place, is_chassis, is_port, seconds_ok}
 
 -- header or body runs past the end
-abbrev pub runs_past : Head → Bool
-runs_past Short = true
-runs_past (Whole kind len) = false
+abbrev pub runs_past : Option Head → Bool
+runs_past None = true
+runs_past (Some h) = false
 
 -- it is whole, and a test of its type and L is not passed
-abbrev pub fails : Head → (ℕ → ℕ → Bool) → Bool
-fails Short ok = false
-fails (Whole kind len) ok = not (ok kind len)
+abbrev pub fails : Option Head → (ℕ → ℕ → Bool) → Bool
+fails None ok = false
+fails (Some h) ok = not (ok h.kind h.len)
 
 -- the two rows of one TLV, and those that follow
-abbrev pub tlv_rows : Head → (ℕ → ℕ → Bool) → ℕ → List (Bool × ℕ) → List (Bool × ℕ)
+abbrev pub tlv_rows : Option Head → (ℕ → ℕ → Bool) → ℕ → List (Bool × ℕ) → List (Bool × ℕ)
 tlv_rows h ok n more = (runs_past h, 5) ∷ (fails h ok, n) ∷ more
 
 -- not of type 1 to 3, nor type 0 with L above 0, nor type 127 with L under 4 (R6)

@@ -10,6 +10,5 @@ mod places;
 pub use extent::rest_extent;
 pub use ids::IdPart;
 pub use leading::{Leading, leading_of};
-pub use outline::{Outline, extent_of, outline_front, outline_lldpdu, refused_outline};
+pub use outline::{Outline, extent_of, outline_front, outline_lldpdu};
 pub use places::{chassis_of, port_of, rest_place};
-pub use walk::Extent;

@@ -35,7 +35,7 @@ fn id_at(s: &[u8], at: usize) -> IdPart
         subtype: octet(s, at + 2),
         octets: Part {
             start: at + 3,
-            len: if len == 0 { 0 } else { len - 1 },
+            len: len.saturating_sub(1),
         },
     }
 }

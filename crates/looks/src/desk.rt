@@ -29,39 +29,28 @@ pub(crate) struct Sides {
 }
 
 pub(crate) fn two_empty() -> Sides {
+    let empty = Side {
+        table: empty_table(),
+        lent: OCTETS,
+    };
     Sides {
-        first: Side {
-            table: empty_table(),
-            lent: OCTETS,
-        },
-        second: Side {
-            table: empty_table(),
-            lent: OCTETS,
-        },
+        first: empty,
+        second: empty,
     }
 }
 
 // A place gets what the record says, and keeps its LLDPDU (1).
 fn placed(r: Record, t: Table, lldpdu: &[u8], store: &mut [u8]) -> Table {
-    if store.len() < OCTETS {
-        return t;
+    match store.get_mut(..OCTETS) {
+        Some(buffer) => store_record(t, buffer, r.place, r.port, r.seconds, r.sender, lldpdu),
+        None => t,
     }
-    let sender = r.sender;
-    store_record(
-        t,
-        &mut store[0..OCTETS],
-        r.place,
-        r.port,
-        r.seconds,
-        sender,
-        lldpdu,
-    )
 }
 
 // An octet of the store becomes another one (2).
 fn put(store: &mut [u8], at: usize, b: u8) {
-    if at < store.len() {
-        store[at] = b;
+    if let Some(octet) = store.get_mut(at) {
+        *octet = b;
     }
 }
 
@@ -74,18 +63,14 @@ fn heard(
     frame: &[u8],
     store: &mut [u8],
 ) -> io::Result<Side> {
-    let table = s.table;
-    let lent = s.lent;
-    if lent > store.len() {
+    let Some(buffer) = store.get_mut(..s.lent) else {
         return Ok(s);
-    }
-    let o = frame_on_port(table, &mut store[0..lent], r.port as usize, frame);
-    let reply = o.reply;
-    say_reply(rt, number, reply)?;
-    let after = o.table;
+    };
+    let heard = frame_on_port(s.table, buffer, r.port as usize, frame);
+    say_reply(rt, number, heard.reply)?;
     Ok(Side {
-        table: after,
-        lent: lent,
+        table: heard.table,
+        lent: s.lent,
     })
 }
 
@@ -98,11 +83,9 @@ fn prepared(
     octets: &[u8],
     store: &mut [u8],
 ) -> io::Result<Side> {
-    let table = s.table;
-    let kind = r.kind;
-    match kind {
+    match r.kind {
         1 => Ok(Side {
-            table: placed(r, table, octets, store),
+            table: placed(r, s.table, octets, store),
             lent: s.lent,
         }),
         2 => {
@@ -111,7 +94,7 @@ fn prepared(
         }
         6 => heard(rt, number, r, s, octets, store),
         _ => Ok(Side {
-            table: table,
+            table: s.table,
             lent: r.length,
         }),
     }
@@ -119,8 +102,8 @@ fn prepared(
 
 // What the list holds before the call, so that it shows which octets were written.
 fn fill_list(list: &mut [u8]) {
-    for j in 0..list.len() {
-        list[j] = (255 - j % 256) as u8;
+    for (j, octet) in list.iter_mut().enumerate() {
+        *octet = (255 - j % 256) as u8;
     }
 }
 
@@ -134,28 +117,6 @@ fn front_of(store: &[u8], lent: usize) -> &[u8] {
     )
 }
 
-fn compared_in(
-    rt: &impl Print,
-    number: usize,
-    list: &mut [u8],
-    a: Side,
-    store: &[u8],
-    b: Side,
-    store2: &[u8],
-) -> io::Result<()> {
-    fill_list(list);
-    let first = a.table;
-    let second = b.table;
-    let answer = compare(
-        first,
-        front_of(store, a.lent),
-        second,
-        front_of(store2, b.lent),
-        list,
-    );
-    say(rt, number, answer, list)
-}
-
 // With a list of n octets.
 fn compared(
     rt: &impl Print,
@@ -166,11 +127,15 @@ fn compared(
     b: Side,
     store2: &[u8],
 ) -> io::Result<()> {
-    let mut list = [0u8; LIST];
-    if n <= LIST {
-        compared_in(rt, number, &mut list[0..n], a, store, b, store2)?;
-    }
-    Ok(())
+    let mut room = [0u8; LIST];
+    let Some(list) = room.get_mut(..n) else {
+        return Ok(());
+    };
+    fill_list(list);
+    let first = front_of(store, a.lent);
+    let second = front_of(store2, b.lent);
+    let answer = compare(a.table, first, b.table, second, list);
+    say(rt, number, answer, list)
 }
 
 // A record that changes the first table (side 0) or the second.
@@ -183,35 +148,31 @@ fn changed(
     store: &mut [u8],
     store2: &mut [u8],
 ) -> io::Result<Sides> {
-    let first = s.first;
-    let second = s.second;
     if r.side == 0 {
         return Ok(Sides {
-            first: prepared(rt, number, r, first, octets, store)?,
-            second: second,
+            first: prepared(rt, number, r, s.first, octets, store)?,
+            second: s.second,
         });
     }
     Ok(Sides {
-        first: first,
-        second: prepared(rt, number, r, second, octets, store2)?,
+        first: s.first,
+        second: prepared(rt, number, r, s.second, octets, store2)?,
     })
 }
 
 // A side becomes a copy of the other one, table, store and what of it is lent (7).
 fn copied(r: Record, s: Sides, store: &mut [u8], store2: &mut [u8]) -> Sides {
-    let first = s.first;
-    let second = s.second;
     if r.side == 0 {
         fill(store, store2);
         return Sides {
-            first: second,
-            second: second,
+            first: s.second,
+            second: s.second,
         };
     }
     fill(store2, store);
     Sides {
-        first: first,
-        second: first,
+        first: s.first,
+        second: s.first,
     }
 }
 
@@ -224,16 +185,13 @@ pub(crate) fn run(
     store: &mut [u8],
     store2: &mut [u8],
 ) -> io::Result<Sides> {
-    let first = s.first;
-    let second = s.second;
-    let kind = r.kind;
-    match kind {
+    match r.kind {
         4 => {
-            compared(rt, number, r.length, first, store, second, store2)?;
+            compared(rt, number, r.length, s.first, store, s.second, store2)?;
             Ok(s)
         }
         5 => {
-            compared(rt, number, r.length, second, store2, first, store)?;
+            compared(rt, number, r.length, s.second, store2, s.first, store)?;
             Ok(s)
         }
         7 => Ok(copied(r, s, store, store2)),

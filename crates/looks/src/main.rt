@@ -7,54 +7,34 @@ mod print;
 mod record;
 
 use desk::{STORE, run, two_empty};
-use input::read_file;
-use record::{FILE, behind, next, record_at};
+use input::{read_file, split_behind, zeros};
+use record::{HEAD, octets_behind, record_at};
 use std::io;
-use text::{Part, text_of};
 
-// A proved loop has to end, so the records are counted; the file has fewer.
-const RECORDS: usize = 100000;
-
-// Room for the file and for the two stores. Each is a call's result so that no proof has to count its octets.
-fn room() -> [u8; FILE] {
-    [0; FILE]
-}
-
-fn store() -> [u8; STORE] {
-    [0; STORE]
-}
+// More octets than the file has.
+const FILE: usize = 2000000;
 
 fn run_all(rt: &impl Print, file: &[u8], store: &mut [u8], store2: &mut [u8]) -> io::Result<()> {
-    let mut pair = two_empty();
-    let mut at = 0;
-    for number in 1..RECORDS {
-        if at >= file.len() {
+    let mut sides = two_empty();
+    let mut rest = file;
+    for number in 1.. {
+        if rest.is_empty() {
             break;
         }
-        let octets = text_of(
-            file,
-            Part {
-                start: at,
-                len: FILE,
-            },
-        );
-        let r = record_at(octets);
-        pair = run(rt, number, r, pair, behind(octets, r), store, store2)?;
-        at = next(at, r);
+        let r = record_at(rest);
+        let (octets, behind) = split_behind(rest, HEAD, octets_behind(r));
+        sides = run(rt, number, r, sides, octets, store, store2)?;
+        rest = behind;
     }
     Ok(())
 }
 
-fn run_file(rt: &impl Print, file: &[u8]) -> io::Result<()> {
-    let mut first = store();
-    let mut second = store();
-    run_all(rt, file, &mut first, &mut second)
-}
-
 fn main(rt: HostRuntime) -> io::Result<()> {
-    let mut file = room();
-    match read_file(&rt, "looks", &mut file)? {
-        Some(n) => run_file(&rt, text_of(&file, Part { start: 0, len: n })),
-        None => Ok(()),
-    }
+    let mut file = zeros::<FILE>();
+    let Some(n) = read_file(&rt, "looks", &mut file)? else {
+        return Ok(());
+    };
+    let mut first = zeros::<STORE>();
+    let mut second = zeros::<STORE>();
+    run_all(&rt, &file[..n], &mut first, &mut second)
 }

@@ -15,12 +15,14 @@ use Rattle.place.specs.State.{chassis_in, record_passes}
 
 -- a place with n for a length that was heard on port q and keeps l, asked for chassis c on port p
 module _ (n q : ℕ) (l : List ℕ) (p : ℕ) (c : Id) where
-  pub by-free : n ≡ 0 → false ≡ record_passes n q l (chassis_is p c)
-  by-free e = sym (rw (eq-eqb n 0 e))
+  pub by-free : n ≡ 0 → record_passes n q l (chassis_is p c) ≡ false
+  by-free e = rw (eq-eqb n 0 e)
 
-  pub by-other : q ≢ p → false ≡ record_passes n q l (chassis_is p c)
-  by-other e = sym (rw (ne_eqb q p e, both_false (not (eqb n 0))))
+  pub by-other : q ≢ p → record_passes n q l (chassis_is p c) ≡ false
+  by-other e = rw (ne_eqb q p e, both_false (not (eqb n 0)))
 
   pub by-chassis : n ≢ 0 → q ≡ p → same_id (id_in l 0) c ≡ record_passes n q l (chassis_is p c)
   unfolding chassis_in
   by-chassis u e = sym (rw (ne_eqb n 0 u, eq-eqb q p e))
+
+pub ruleset otherwise = (by-free, by-other)

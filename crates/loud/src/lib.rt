@@ -13,6 +13,7 @@ use numbers::{PLACES, Table};
 use place::lldpdu_at;
 
 // Whether place i, by its own length and port, has a record that was heard on port p from a chassis that is given as a part of a text.
+#[tactic(auto, using(crate::proofs::ByLaws::otherwise))]
 pub fn is_by(
     buffer: &[u8],
     i: usize,
@@ -24,16 +25,14 @@ pub fn is_by(
 ) -> bool
     ensures { result ≡ record_passes length origin (lldpdu_in buffer.now i length) (chassis_is p (id_meant text.now chassis)) }
 {
-    if length == 0 {
-        return false;
-    }
-    if origin != p {
+    if length == 0 || origin != p {
         return false;
     }
     let l = lldpdu_at(buffer, i, length);
     same_id(l, chassis_of(l), text, chassis)
 }
 
+// How many records a chassis holds on a port (N13). It counts in an octet, as `numbers::held` does.
 pub fn chassis_held(t: Table, buffer: &[u8], p: u8, text: &[u8], chassis: IdPart) -> u8
     ensures { result ≡ count_records (state t buffer.now) (chassis_is p (id_meant text.now chassis)) }
 {

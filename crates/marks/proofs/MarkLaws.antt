@@ -3,7 +3,7 @@
 use Prim.Native.Nat.{ℕ, ◌+◌, ◌<◌}
 use mathlib.Core.Path.{◌≡◌, sym, ap, ◌∙◌}
 use mathlib.Core.Logic.{⊎_elim}
-use mathlib.Core.Bool.{true, false, true≢false}
+use mathlib.Core.Bool.{true}
 use mathlib.Core.List.{List}
 use native.Mathlib.Nat.{eq-or-lt_of_le}
 use native.Mathlib.Omega.{arith}
@@ -15,7 +15,7 @@ use Rattle.numbers.specs.Sizes.{places}
 use Rattle.place.specs.State.{State, at}
 use Rattle.marks.specs.PlaceFit.{ok_place}
 use Rattle.marks.specs.Marks.{mark_at, check_place, Checks}
-use Rattle.marks.specs.declared.Check.TheVariants.{Unfit, Mark}
+use Rattle.std.specs.Prelude.{Some, None}
 use Rattle.marks.proofs.CheckLaws.{marked, unmarked}
 
 -- the places below i are fit and have their marks
@@ -29,7 +29,7 @@ module _ (s : State) where
   below_none = record { long = length-replicate {A = ℕ} places 0; fit = all_none _; right = λ k l. absurd (omega arith) }
 
   module _ (marks : List ℕ) (i : ℕ) (h : i < places) where
-    pub below_more : (m : ℕ) → Below s marks i → Mark m ≡ check_place (at s i) → Below s (set marks i m) (i + 1)
+    pub below_more : (m : ℕ) → Below s marks i → Some m ≡ check_place (at s i) → Below s (set marks i m) (i + 1)
     unfolding check_place
     below_more m b e =
         let w = marked (ok_place (at s i)) m (mark_at (at s i)) e in
@@ -44,17 +44,11 @@ module _ (s : State) where
               (eq-or-lt_of_le (omega arith));
         }
 
-  pub below-stop : (i : ℕ) → i < places → Unfit ≡ check_place (at s i) → Checks s (record { fit = false; marks = replicate places 0 })
+  pub below-stop : (i : ℕ) → i < places → None ≡ check_place (at s i) → Checks s None
   unfolding check_place
   below-stop i h e =
-      record {
-        told = sym (all-stop (λ k. ok_place (at s k)) i places h (unmarked (ok_place (at s i)) (mark_at (at s i)) e));
-        marked = λ q. absurd (true≢false (sym q));
-      }
+      all-stop (λ k. ok_place (at s k)) i places h (unmarked (ok_place (at s i)) (mark_at (at s i)) e)
 
-  pub below_end : (marks : List ℕ) (i : ℕ) → i ≡ places → Below s marks i → Checks s (record { fit = true; marks = marks })
+  pub below_end : (marks : List ℕ) (i : ℕ) → i ≡ places → Below s marks i → Checks s (Some marks)
   below_end marks i e b =
-      record {
-        told = sym (ap (all_below (λ k. ok_place (at s k))) (sym e) ∙ b.fit);
-        marked = λ q. record { long = b.long; right = λ k l. b.right k (omega arith) };
-      }
+      (ap (all_below (λ k. ok_place (at s k))) (sym e) ∙ b.fit, record { long = b.long; right = λ k l. b.right k (omega arith) })

@@ -1,6 +1,6 @@
 -- The marks of the fitness test: a number of each identity, so that most pairs of records are told apart by it alone.
 -- They are for speed; whether a table is fit does not depend on them (N5 d, g).
-use Rattle.std.specs.Prelude.{ℕ, ◌+◌, ◌-◌, ◌*◌, ◌/◌, ◌%◌, ◌<◌, ◌≡◌, Bool, true, List, [], ◌∷◌, length, get_or, leb, ltb, eqb}
+use Rattle.std.specs.Prelude.{ℕ, ◌+◌, ◌-◌, ◌*◌, ◌/◌, ◌%◌, ◌<◌, ◌≡◌, Bool, true, false, List, [], ◌∷◌, length, get_or, leb, ltb, eqb, Option, Some, None}
 use Rattle.tally.specs.Tests.{pick, both, all}
 use Rattle.tally.specs.Ranges.{all_below}
 use Rattle.tally.specs.Counts.{count}
@@ -12,9 +12,6 @@ use Rattle.rules.specs.Shares.{per_chassis}
 use Rattle.numbers.specs.Sizes.{places}
 use Rattle.place.specs.State.{Place, State, at, used, whose_in, who_at}
 use Rattle.marks.specs.PlaceFit.{free_tests, whole, ok_place}
-use Rattle.marks.specs.declared.Check.{Check}
-use Rattle.marks.specs.declared.Check.TheVariants.{Unfit, Mark}
-use Rattle.marks.specs.declared.Marks.{Marks}
 
 -- the last octet, wherever it lies; of an ID the last two, where the subtype stands before its octets
 abbrev pub last_one : List ℕ → ℕ
@@ -34,16 +31,16 @@ abbrev pub mark_at : Place → ℕ
 mark_at x = pick (used x) (identity_mark (who_at x)) 0
 
 -- a mark where the place is fit by itself
-abbrev pub check : Bool → ℕ → Check
-check ok m = pick ok (Mark m) Unfit
+abbrev pub check : Bool → ℕ → Option ℕ
+check ok m = pick ok (Some m) None
 
-unfoldable pub check_free : ℕ → ℕ → List ℕ → List ℕ → Check
+unfoldable pub check_free : ℕ → ℕ → List ℕ → List ℕ → Option ℕ
 check_free p left sender b = check (all (free_tests p left sender b)) 0
 
-unfoldable pub check_used : ℕ → ℕ → List ℕ → List ℕ → Check
+unfoldable pub check_used : ℕ → ℕ → List ℕ → List ℕ → Option ℕ
 check_used p left l rest = check (all (whole l left ∷ zeros rest ∷ [])) (identity_mark (whose_in p l))
 
-unfoldable pub check_place : Place → Check
+unfoldable pub check_place : Place → Option ℕ
 check_place x = check (ok_place x) (mark_at x)
 
 -- each place has its mark
@@ -75,7 +72,11 @@ settled marks i n = both (apart marks i n) (few marks i n)
 unfoldable pub few_below : List ℕ → ℕ → Bool
 few_below marks i = ltb (count (kin marks i) i) per_chassis
 
--- what the pass over all places gives
-pub record Checks (s : State) (m : Marks) : Type 0 where
-  pub told : m.fit ≡ all_below (λ k. ok_place (at s k)) places
-  pub marked : m.fit ≡ true → Marked s m.marks
+-- all places are fit by themselves
+abbrev pub all_ok : State → Bool
+all_ok s = all_below (λ k. ok_place (at s k)) places
+
+-- what the pass over all places gives: a mark of each, where all of them are fit by themselves
+abbrev pub Checks : State → Option (List ℕ) → Type 0
+Checks s (Some marks) = (all_ok s ≡ true) × Marked s marks
+Checks s None = all_ok s ≡ false

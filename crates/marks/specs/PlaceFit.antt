@@ -1,19 +1,19 @@
 -- When a place is fit by itself (N5 b, c): free and empty, or used by a whole valid LLDPDU with time left, zeros behind it, and a sender that is no group address.
 -- The length of the buffer, the shares, and that no identity occurs twice are asked of the whole table (fitness/specs/Fit.antt).
-use Rattle.std.specs.Prelude.{ℕ, Bool, false, not, List, [], ◌∷◌, length, take, drop, leb, ltb, eqb}
+use Rattle.std.specs.Prelude.{ℕ, Bool, false, not, List, [], ◌∷◌, length, take, drop, leb, ltb, eqb, Ok, Err}
 use Rattle.tally.specs.Tests.{pick, all}
 use Rattle.octets.specs.Address.{same_octets, is_group}
 use Rattle.whole.specs.Whole.{zeros}
-use Rattle.lldpdu.specs.Outline.{outline_of}
-use Rattle.walk.specs.declared.Extent.{Extent}
-use Rattle.walk.specs.declared.Extent.TheVariants.{Refused, Octets}
+use Rattle.walk.specs.Walk.{Extent}
+use Rattle.lldpdu.specs.Extent.{extent_of}
+use Rattle.lldpdu.specs.Outline.{outline_of, seconds_told}
 use Rattle.numbers.specs.Sizes.{ports}
 use Rattle.place.specs.State.{Place, size, six_zeros}
 
 -- valid, and of exactly n octets
 abbrev pub exactly : Extent → ℕ → Bool
-exactly (Refused k) n = false
-exactly (Octets e) n = eqb e n
+exactly (Ok e) n = eqb e n
+exactly (Err r) n = false
 
 -- N5 (b), of port, seconds left, sender and octets
 abbrev pub free_tests : ℕ → ℕ → List ℕ → List ℕ → List Bool
@@ -24,7 +24,7 @@ ok_free x = all (free_tests x.port x.seconds x.sender x.body)
 
 -- N5 (c): a whole valid LLDPDU l, with 1 to its seconds left
 unfoldable pub whole : List ℕ → ℕ → Bool
-whole l left = all (exactly (outline_of l).extent (length l) ∷ leb 1 left ∷ leb left (outline_of l).seconds ∷ [])
+whole l left = all (exactly (extent_of l) (length l) ∷ leb 1 left ∷ leb left (seconds_told (outline_of l)) ∷ [])
 
 -- N5 (c): port, sender (F4), length, LLDPDU with its seconds, zeros behind it
 abbrev pub used_tests : Place → List Bool

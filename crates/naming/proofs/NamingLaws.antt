@@ -23,16 +23,16 @@ use Rattle.fields.specs.declared.Field.{Field}
 use Rattle.fields.specs.declared.Field.TheVariants.{Skipped, Malformed, Says}
 use Rattle.links.proofs.LinkLaws.{link-has}
 use Rattle.fields.proofs.FieldLaws.{Fits, field_fits}
-use Rattle.walk.specs.Walk.{Placed, head_of, step_of, Walked, walk}
-use Rattle.lldpdu.specs.Extent.{refusal_of_extent, rest_of, extent_of}
-use Rattle.walk.specs.declared.Extent.{Extent}
-use Rattle.walk.specs.declared.Extent.TheVariants.{Refused, Octets}
-use Rattle.naming.specs.Naming.{refusal_of_naming, numbers_of, sees, sees_in, number_in, numbers_in, Numbered, first_naming, naming_at, naming_of, seen_by_link, seen_by_table, seen_by, first_seen, seen_at, Names}
+use Rattle.walk.specs.Walk.{Placed, head_of, step_of, Walked, walk, Extent}
+use Rattle.lldpdu.specs.Extent.{rest_of, extent_of}
+use Rattle.refusal.specs.Refusal.{refusal_of}
+use Rattle.refusal.specs.declared.Refusal.{Refusal}
+use Rattle.std.specs.Prelude.{Ok, Err, Option as CodeOption, Some, None}
+use Rattle.naming.specs.Naming.{Answer, numbers_named, numbers_of, sees, sees_in, number_in, numbers_in, Numbered, first_naming, naming_at, naming_of, seen_by_link, seen_by_table, seen_by, first_seen, seen_at, Names}
 use Rattle.naming.specs.declared.Number.{Number}
 use Rattle.naming.specs.declared.Naming.{Naming}
 use Rattle.walk.proofs.WalkLaws.{walk_refused, walk_end, walk-next}
-use Rattle.walk.specs.declared.Step.TheVariants as step
-use Rattle.naming.specs.declared.Naming.TheVariants.{Nowhere, Link}
+use Rattle.walk.specs.declared.Step.TheVariants.{End, Next}
 
 -- n and m stand in the content where they stand in the information string, four octets on
 module _ (b : List ℕ) where
@@ -76,29 +76,29 @@ module _ (b : List ℕ) {n m : ℕ} (p : n ≡ get_or b 4 0) (q : m ≡ get_or b
   pub counts-short : Numbered b → (n ≤ 4) × ((m ≤ 4) × (6 + n + m ≤ length b))
   counts-short h = rw (q, p) (h.type_short, (h.number_short, h.inside))
 
-  pub numbers-at : Link (number_in (take n (drop 5 b))) (number_in (take m (drop (6 + n) b))) ≡ numbers_in b
+  pub numbers-at : record { interface = number_in (take n (drop 5 b)); port = number_in (take m (drop (6 + n) b)) } ≡ numbers_in b
   unfolding numbers_in
   numbers-at = rw (q, p)
 
 module _ (s : List ℕ) (at : ℕ) (a : List ℕ) where
-  pub naming-refused : {n : ℕ} → step_of (head_of (drop at s)) at ≡ step.Refused n → first_naming a (walk (drop at s) 0 at).tlvs ≡ Nowhere
+  pub naming_refused : {r : Refusal} → step_of (head_of (drop at s)) at ≡ Err r → first_naming a (walk (drop at s) 0 at).tlvs ≡ None
   unfolding first_naming
-  naming-refused e = ap (λ (w : Walked). first_naming a w.tlvs) (walk_refused s at e)
+  naming_refused e = ap (λ (w : Walked). first_naming a w.tlvs) (walk_refused s at e)
 
-  pub naming-end : {end : ℕ} → step_of (head_of (drop at s)) at ≡ step.End end → first_naming a (walk (drop at s) 0 at).tlvs ≡ Nowhere
+  pub naming_end : {end : ℕ} → step_of (head_of (drop at s)) at ≡ Ok (End end) → first_naming a (walk (drop at s) 0 at).tlvs ≡ None
   unfolding first_naming
-  naming-end e = ap (λ (w : Walked). first_naming a w.tlvs) (walk_end s at e)
+  naming_end e = ap (λ (w : Walked). first_naming a w.tlvs) (walk_end s at e)
 
-  module _ {kind start len : ℕ} (e : step_of (head_of (drop at s)) at ≡ step.Next kind start len) where
+  module _ {kind start len : ℕ} (e : step_of (head_of (drop at s)) at ≡ Ok (Next kind start len)) where
     naming-next : first_naming a (walk (drop at s) 0 at).tlvs
-        ≡ pick (sees_in kind (take len (drop start s)) a) (numbers_in (take len (drop start s)))
+        ≡ pick (sees_in kind (take len (drop start s)) a) (Some (numbers_in (take len (drop start s))))
         (first_naming a (walk (drop (start + len) s) 0 (start + len)).tlvs)
     unfolding first_naming
     naming-next = ap (λ (w : Walked). first_naming a w.tlvs) (walk-next s at e)
 
     -- with the information string b as the code has it
     module _ {b : List ℕ} (p : b ≡ take len (drop start s)) where
-      pub naming-hit : sees_in kind b a ≡ true → first_naming a (walk (drop at s) 0 at).tlvs ≡ numbers_in b
+      pub naming-hit : sees_in kind b a ≡ true → first_naming a (walk (drop at s) 0 at).tlvs ≡ Some (numbers_in b)
       naming-hit i = naming-next ∙ rw (← p, i)
 
       pub naming-miss : sees_in kind b a ≡ false → first_naming a (walk (drop at s) 0 at).tlvs ≡ first_naming a (walk (drop (start + len) s) 0 (start + len)).tlvs
@@ -107,22 +107,13 @@ module _ (s : List ℕ) (at : ℕ) (a : List ℕ) where
 -- What the answer says
 
 -- it is refused exactly as the LLDPDU is, with the same number
-unrefused : (a : List ℕ) (ps : List Placed) → refusal_of_naming (first_naming a ps) ≡ 0
-unfolding first_naming numbers_in
-unrefused a [] = refl
-unrefused a (p ∷ ps) = go (sees_in p.tlv.kind p.tlv.body a) (unrefused a ps)
-  where
-    go : (b : Bool) → refusal_of_naming (first_naming a ps) ≡ 0 → refusal_of_naming (pick b (numbers_in p.tlv.body) (first_naming a ps)) ≡ 0
-    go true ih = refl
-    go false ih = ih
-
-pub naming-refusal : (s a : List ℕ) → refusal_of_naming (naming_of s a) ≡ refusal_of_extent (extent_of s)
+pub naming-refusal : (s a : List ℕ) → refusal_of (naming_of s a) ≡ refusal_of (extent_of s)
 unfolding naming_of
 naming-refusal s a = go (extent_of s)
   where
-    go : (x : Extent) → refusal_of_naming (naming_at x s a) ≡ refusal_of_extent x
-    go (Refused n) = refl
-    go (Octets e) = unrefused a (rest_of s).tlvs
+    go : (x : Extent) → refusal_of (naming_at x s a) ≡ refusal_of x
+    go (Err r) = refl
+    go (Ok e) = refl
 
 -- a content names what the information string names, and has its numbers
 module _ (b a : List ℕ) where
@@ -146,7 +137,7 @@ module _ (b a : List ℕ) where
 
   link-content : (more : Option (Number × Number))
       → seen_by_link a (drop 4 b) (type_count 0 (drop 4 b)) (number_count 0 (drop 4 b)) more
-      ≡ pick (names_of b a) (numbers_of (numbers_in b)) more
+      ≡ pick (names_of b a) (numbers_named (Some (numbers_in b))) more
   unfolding names_of numbers_in
   link-content more =
       let n = type_count 4 b in
@@ -161,7 +152,7 @@ module _ (b a : List ℕ) where
       )
 
   table-content : extension_ok (drop 4 b) ≡ true → (more : Option (Number × Number))
-      → seen_by_table a (table_from (drop 4 b)) more ≡ pick (extension_names (drop 4 b) a) (numbers_of (numbers_in b)) more
+      → seen_by_table a (table_from (drop 4 b)) more ≡ pick (extension_names (drop 4 b) a) (numbers_named (Some (numbers_in b))) more
   unfolding numbers_in
   table-content e more =
       let n = type_count 4 b in
@@ -173,27 +164,27 @@ module _ (b a : List ℕ) where
         rest-place (2 + n) (6 + n) (omega arith),
       )
 
-picked : (t : Bool) (x y : Naming) → numbers_of (pick t x y) ≡ pick t (numbers_of x) (numbers_of y)
+picked : (t : Bool) (x y : CodeOption Naming) → numbers_named (pick t x y) ≡ pick t (numbers_named x) (numbers_named y)
 picked true x y = refl
 picked false x y = refl
 
 -- one TLV in front of the others
-field-seen : (a b : List ℕ) (x : Field) (rest : Naming) (more : Option (Number × Number)) → Fits b x → numbers_of rest ≡ more
-    → numbers_of (pick (sees x b a) (numbers_in b) rest) ≡ seen_by a x b more
+field-seen : (a b : List ℕ) (x : Field) (rest : CodeOption Naming) (more : Option (Number × Number)) → Fits b x → numbers_named rest ≡ more
+    → numbers_named (pick (sees x b a) (Some (numbers_in b)) rest) ≡ seen_by a x b more
 field-seen a b Skipped rest more h ih = ih
 field-seen a b Malformed rest more h ih = ih
 field-seen a b (Says topic skip) rest more h ih = go (eqb topic link) refl (eqb topic extension) refl
   where
     go : (u : Bool) → eqb topic link ≡ u → (v : Bool) → eqb topic extension ≡ v
-        → numbers_of (pick (pick u (names_of b a) (both v (extension_names (drop skip b) a))) (numbers_in b) rest)
+        → numbers_named (pick (pick u (names_of b a) (both v (extension_names (drop skip b) a))) (Some (numbers_in b)) rest)
         ≡ pick u (seen_by_link a (drop skip b) (type_count 0 (drop skip b)) (number_count 0 (drop skip b)) more) (pick v (seen_by_table a (table_from (drop skip b)) more) more)
-    go true l v x = rw ((h.linked (eqb-true topic link l)).1, link-content b a more, ← ih) (picked (names_of b a) (numbers_in b) rest)
+    go true l v x = rw ((h.linked (eqb-true topic link l)).1, link-content b a more, ← ih) (picked (names_of b a) (Some (numbers_in b)) rest)
     go false l true x =
         let w = h.extended (eqb-true topic extension x) in
-        rw (w.1, table-content b a w.0 more, ← ih) (picked (extension_names (drop 4 b) a) (numbers_in b) rest)
+        rw (w.1, table-content b a w.0 more, ← ih) (picked (extension_names (drop 4 b) a) (Some (numbers_in b)) rest)
     go false l false x = ih
 
-naming-seen : (a : List ℕ) (ps : List Placed) → numbers_of (first_naming a ps) ≡ first_seen a (map (λ p. p.tlv) ps)
+naming-seen : (a : List ℕ) (ps : List Placed) → numbers_named (first_naming a ps) ≡ first_seen a (map (λ p. p.tlv) ps)
 unfolding first_naming first_seen
 naming-seen a [] = refl
 naming-seen a (p ∷ ps) =
@@ -204,14 +195,14 @@ unfolding naming_of
 naming-numbers s a = go (extent_of s)
   where
     go : (x : Extent) → numbers_of (naming_at x s a) ≡ seen_at x s a
-    go (Refused n) = refl
-    go (Octets e) = naming-seen a (rest_of s).tlvs
+    go (Err r) = refl
+    go (Ok e) = naming-seen a (rest_of s).tlvs
 
 -- on a valid LLDPDU it is the first TLV that names the address
-pub valid-naming : (s a : List ℕ) {e : ℕ} → extent_of s ≡ Octets e → first_naming a (rest_of s).tlvs ≡ naming_of s a
+pub valid-naming : (s a : List ℕ) {e : ℕ} → extent_of s ≡ Ok e → Ok (first_naming a (rest_of s).tlvs) ≡ naming_of s a
 unfolding naming_of
 valid-naming s a v = sym (ap (λ (x : Extent). naming_at x s a) v)
 
 -- the one answer says what it should
-pub names-exactly : (s a : List ℕ) {r : Naming} → r ≡ naming_of s a → Names s a r
-names-exactly s a e = record { exact = e; refusal = ap refusal_of_naming e ∙ naming-refusal s a; numbers = ap numbers_of e ∙ naming-numbers s a }
+pub names-exactly : (s a : List ℕ) {r : Answer} → r ≡ naming_of s a → Names s a r
+names-exactly s a e = record { exact = e; refusal = ap refusal_of e ∙ naming-refusal s a; numbers = ap numbers_of e ∙ naming-numbers s a }

@@ -1,5 +1,5 @@
 -- Which TLVs see an address, by type, organization and subtype (T1): link information and its extension alone do (A4).
--- Each return of the code that asks them is one law here.
+-- The code that asks them finds most of it by itself; each answer is one law here.
 use Prim.Native.Nat.{ℕ, ◌+◌, ◌<◌}
 use mathlib.Core.Path.{◌≡◌, refl, sym}
 use mathlib.Core.Logic.{◌≢◌}

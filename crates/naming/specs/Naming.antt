@@ -1,6 +1,6 @@
 -- Who sees an address (A4): the first TLV that is well-formed link information, basic or extension, and names it, with its two numbers.
 -- The rest of the LLDPDU, the verdict and the address list play no part in it.
-use Rattle.std.specs.Prelude.{ℕ, ◌+◌, ◌*◌, ◌≤◌, ◌≡◌, List, [], ◌∷◌, Bool, false, length, take, drop, eqb}
+use Rattle.std.specs.Prelude.{ℕ, ◌+◌, ◌*◌, ◌≤◌, ◌≡◌, List, [], ◌∷◌, Bool, false, length, take, drop, eqb, Result, Ok, Err, Option as CodeOption, Some, None}
 use Rattle.std.proofs.Math.Option.{Option, none, some}
 use Rattle.tally.specs.Tests.{pick, both}
 use Rattle.tally.specs.Ranges as ranges
@@ -13,25 +13,25 @@ use Rattle.extension.specs.Asked.{table_names}
 use Rattle.fields.specs.Field.{link, extension, field_of}
 use Rattle.fields.specs.declared.Field.{Field}
 use Rattle.fields.specs.declared.Field.TheVariants.{Skipped, Malformed, Says}
-use Rattle.walk.specs.Walk.{Tlv, Placed}
-use Rattle.lldpdu.specs.Extent.{refusal_of_extent, rest_of, extent_of}
-use Rattle.walk.specs.declared.Extent.{Extent}
-use Rattle.walk.specs.declared.Extent.TheVariants as extent-is
+use Rattle.walk.specs.Walk.{Tlv, Placed, Extent}
+use Rattle.lldpdu.specs.Extent.{rest_of, extent_of}
+use Rattle.refusal.specs.Refusal.{refusal_of}
+use Rattle.refusal.specs.declared.Refusal.{Refusal}
 use Rattle.found.specs.Contents.{LinkInfo, link_in, tlvs_in}
 use Rattle.naming.specs.declared.Number.{Number}
 use Rattle.naming.specs.declared.Naming.{Naming}
-use Rattle.naming.specs.declared.Naming.TheVariants.{Refused, Nowhere, Link}
 
--- the refusal number of an answer, 0 where it is none; and the two numbers, where there are any
-abbrev pub refusal_of_naming : Naming → ℕ
-refusal_of_naming (Refused n) = n
-refusal_of_naming Nowhere = 0
-refusal_of_naming (Link interface port) = 0
+-- an answer, and its two numbers, where there are any
+abbrev pub Answer : Type 0
+Answer = Result (CodeOption Naming) Refusal
 
-abbrev pub numbers_of : Naming → Option (Number × Number)
-numbers_of (Refused n) = none
-numbers_of Nowhere = none
-numbers_of (Link interface port) = some (interface, port)
+abbrev pub numbers_named : CodeOption Naming → Option (Number × Number)
+numbers_named None = none
+numbers_named (Some n) = some (n.interface, n.port)
+
+abbrev pub numbers_of : Answer → Option (Number × Number)
+numbers_of (Ok n) = numbers_named n
+numbers_of (Err r) = none
 
 -- b is the information string of the field
 abbrev pub sees : Field → List ℕ → List ℕ → Bool
@@ -47,7 +47,11 @@ number_in l = record { octets = length l; value = value_of l }
 
 -- b is the information string of well-formed link information of either kind (T7, T11)
 unfoldable pub numbers_in : List ℕ → Naming
-numbers_in b = Link (number_in (take (type_count 4 b) (drop 5 b))) (number_in (take (number_count 4 b) (drop (6 + type_count 4 b) b)))
+numbers_in b =
+    record {
+      interface = number_in (take (type_count 4 b) (drop 5 b));
+      port = number_in (take (number_count 4 b) (drop (6 + type_count 4 b) b));
+    }
 
 -- what the code needs before it may cut the two numbers out
 pub record Numbered (b : List ℕ) : Type 0 where
@@ -55,15 +59,15 @@ pub record Numbered (b : List ℕ) : Type 0 where
   pub number_short : number_count 4 b ≤ 4
   pub inside : 6 + type_count 4 b + number_count 4 b ≤ length b
 
-unfoldable pub first_naming : List ℕ → List Placed → Naming
-first_naming a [] = Nowhere
-first_naming a (p ∷ ps) = pick (sees_in p.tlv.kind p.tlv.body a) (numbers_in p.tlv.body) (first_naming a ps)
+unfoldable pub first_naming : List ℕ → List Placed → CodeOption Naming
+first_naming a [] = None
+first_naming a (p ∷ ps) = pick (sees_in p.tlv.kind p.tlv.body a) (Some (numbers_in p.tlv.body)) (first_naming a ps)
 
-abbrev pub naming_at : Extent → List ℕ → List ℕ → Naming
-naming_at (extent-is.Refused n) s a = Refused n
-naming_at (extent-is.Octets e) s a = first_naming a (rest_of s).tlvs
+abbrev pub naming_at : Extent → List ℕ → List ℕ → Answer
+naming_at (Err r) s a = Err r
+naming_at (Ok e) s a = Ok (first_naming a (rest_of s).tlvs)
 
-unfoldable pub naming_of : List ℕ → List ℕ → Naming
+unfoldable pub naming_of : List ℕ → List ℕ → Answer
 naming_of s a = naming_at (extent_of s) s a
 
 -- What an answer says, by the rules alone: no place and no code type but the two numbers stands in it
@@ -96,11 +100,11 @@ first_seen a [] = none
 first_seen a (t ∷ ts) = seen_by a (field_of t.kind t.body) t.body (first_seen a ts)
 
 abbrev pub seen_at : Extent → List ℕ → List ℕ → Option (Number × Number)
-seen_at (extent-is.Refused n) s a = none
-seen_at (extent-is.Octets e) s a = first_seen a (tlvs_in s)
+seen_at (Err r) s a = none
+seen_at (Ok e) s a = first_seen a (tlvs_in s)
 
 -- The contract of who sees an address: this answer and no other, with the refusal and the numbers that the rules give
-pub record Names (s a : List ℕ) (r : Naming) : Type 0 where
+pub record Names (s a : List ℕ) (r : Answer) : Type 0 where
   pub exact : r ≡ naming_of s a
-  pub refusal : refusal_of_naming r ≡ refusal_of_extent (extent_of s)
+  pub refusal : refusal_of r ≡ refusal_of (extent_of s)
   pub numbers : numbers_of r ≡ seen_at (extent_of s) s a

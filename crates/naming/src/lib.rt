@@ -10,9 +10,9 @@ ghost use Rattle.naming.specs.Naming.{sees_in, number_in, numbers_in, Numbered, 
 use extension::{extension_fits, extension_names};
 use fields::is_ttc;
 use links::{link_fits, names};
-use lldpdu::{Extent, extent_of, rest_place};
+use lldpdu::{extent_of, rest_place};
 use octets::{octet, value_of};
-use text::{Part, text_of};
+use refusal::Refusal;
 use walk::{Step, step_at};
 
 // A number as it was sent: its count of octets and its value, so that 00 06 is not 06.
@@ -22,46 +22,33 @@ pub struct Number {
     pub value: u32,
 }
 
+// The two numbers of the link information that names the address.
 #[derive(Clone, Copy)]
-pub enum Naming {
-    Refused(u8),
-    Nowhere,
-    Link { interface: Number, port: Number },
+pub struct Naming {
+    pub interface: Number,
+    pub port: Number,
 }
 
 // Link information: a TLV of type 127 with subtype 2 (T1, T7).
+#[tactic(auto, unfolding(fields::specs::Field::field_of, fields::specs::Field::ttc_of, fields::specs::Field::link_of))]
 fn link_sees(part: &[u8], address: [u8; 6]) -> bool
     requires { get_or part.now 3 0 ≡ 2 }
     ensures { result ≡ sees_in 127 part.now address }
 {
-    if is_ttc(part) {} else {
-        return false;
-    }
-    if link_fits(part) {
-        return names(part, address);
-    }
-    false
+    is_ttc(part) && link_fits(part) && names(part, address)
 }
 
 // Extension link information: a TLV of type 127 with subtype 4 (T1, T11).
+#[tactic(auto, unfolding(fields::specs::Field::field_of, fields::specs::Field::ttc_of, fields::specs::Field::extension_of))]
 fn extension_sees(part: &[u8], address: [u8; 6]) -> bool
     requires { get_or part.now 3 0 ≡ 4 }
     ensures { result ≡ sees_in 127 part.now address }
 {
-    if is_ttc(part) {} else {
+    if !is_ttc(part) {
         return false;
     }
-    let content = text_of(
-        part,
-        Part {
-            start: 4,
-            len: part.len(),
-        },
-    );
-    if extension_fits(content) {
-        return extension_names(content, address);
-    }
-    false
+    let content = &part[4..];
+    extension_fits(content) && extension_names(content, address)
 }
 
 // Whether a TLV is well-formed link information of either kind and names the address. What a field says is not asked: type and subtype pass most TLVs over.
@@ -71,14 +58,11 @@ fn sees(kind: u8, part: &[u8], address: [u8; 6]) -> bool
     if kind != 127 {
         return false;
     }
-    let subtype = octet(part, 3);
-    if subtype == 2 {
-        return link_sees(part, address);
+    match octet(part, 3) {
+        2 => link_sees(part, address),
+        4 => extension_sees(part, address),
+        _ => false,
     }
-    if subtype == 4 {
-        return extension_sees(part, address);
-    }
-    false
 }
 
 fn number_of(part: &[u8]) -> Number
@@ -92,6 +76,7 @@ fn number_of(part: &[u8]) -> Number
 }
 
 // Interface type and port number, which stand at the same places in both kinds of link information.
+#[tactic(auto, unfolding(crate::specs::Naming::numbers_in))]
 fn numbers_of(part: &[u8]) -> Naming
     requires { Numbered part.now }
     ensures { result ≡ numbers_in part.now }
@@ -99,48 +84,37 @@ fn numbers_of(part: &[u8]) -> Naming
     let n = octet(part, 4) as usize;
     let m = octet(part, 5 + n) as usize;
     let middle = 6 + n;
-    Naming::Link {
+    Naming {
         interface: number_of(&part[5..5 + n]),
         port: number_of(&part[middle..middle + m]),
     }
 }
 
-fn naming_from(s: &[u8], from: usize, address: [u8; 6]) -> Naming
+#[tactic(auto, using(crate::proofs::NamingLaws::naming_end, crate::proofs::NamingLaws::naming_refused))]
+fn naming_from(s: &[u8], from: usize, address: [u8; 6]) -> Option<Naming>
     ensures { result ≡ first_naming address (walk (drop from s.now) 0 from).tlvs }
 {
     let mut at = from;
-    loop {
-        match step_at(s, at) {
-            Step::Refused(_) => {
-                return Naming::Nowhere;
-            }
-            Step::End(_) => {
-                return Naming::Nowhere;
-            }
-            Step::Next { kind, start, len } => {
-                let end = start + len;
-                let part = &s[start..end];
-                if sees(kind, part, address) {
-                    return numbers_of(part);
-                }
-                at = end;
-            }
+    while let Ok(Step::Next { kind, start, len }) = step_at(s, at) {
+        at = start + len;
+        let part = &s[start..at];
+        if sees(kind, part, address) {
+            return Some(numbers_of(part));
         }
     }
+    None
 }
 
 // The answer on octets that are known to be a valid LLDPDU, as those that a fit table keeps (N5): they are walked once.
-pub fn rest_naming(s: &[u8], address: [u8; 6]) -> Naming
+pub fn rest_naming(s: &[u8], address: [u8; 6]) -> Option<Naming>
     ensures { result ≡ first_naming address (rest_of s.now).tlvs }
 {
     naming_from(s, rest_place(s), address)
 }
 
-pub fn link_naming(s: &[u8], address: [u8; 6]) -> Naming
+pub fn link_naming(s: &[u8], address: [u8; 6]) -> Result<Option<Naming>, Refusal>
     ensures { Names s.now address result }
 {
-    match extent_of(s) {
-        Extent::Refused(n) => Naming::Refused(n),
-        Extent::Octets(_) => rest_naming(s, address),
-    }
+    extent_of(s)?;
+    Ok(rest_naming(s, address))
 }

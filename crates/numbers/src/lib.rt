@@ -39,30 +39,27 @@ pub struct Table {
 }
 
 // How many used places have this port (N10).
+// It counts in an octet, so that many places are counted at a time; that 256 places do not fit is held by the edit ports_64.
+#[tactic(auto, using(crate::proofs::NumbersLaws::counting), unfolding(crate::specs::Numbers::holds))]
 pub fn held(t: Table, p: usize) -> u8
     ensures { result ≡ holds t p }
 {
     let mut n: u8 = 0;
     for i in 0..PLACES {
-        if t.length[i] != 0 {
-            if t.port[i] as usize == p {
-                n += 1;
-            }
+        if t.length[i] != 0 && usize::from(t.port[i]) == p {
+            n += 1;
         }
     }
     n
 }
 
-// How many common places are taken (N5 f).
+// How many common places are taken (N5 f). In a loop: what a chain sums would have to be bounded first.
 pub fn beyond_sure(t: Table) -> usize
     ensures { result ≡ beyond ports (holds t) }
 {
     let mut sum: usize = 0;
     for p in 0..PORTS {
-        let n = held(t, p);
-        if n > SURE {
-            sum += (n - SURE) as usize;
-        }
+        sum += usize::from(held(t, p).saturating_sub(SURE));
     }
     sum
 }
@@ -97,9 +94,7 @@ pub fn shares_fit(t: Table) -> bool
         if count > MOST {
             return false;
         }
-        if count > SURE {
-            sum += (count - SURE) as usize;
-        }
+        sum += usize::from(count.saturating_sub(SURE));
     }
     sum <= COMMON
 }
@@ -108,10 +103,5 @@ pub fn shares_fit(t: Table) -> bool
 pub fn first_free(t: Table) -> usize
     ensures { result ≡ first_free t }
 {
-    for i in 0..PLACES {
-        if t.length[i] == 0 {
-            return i;
-        }
-    }
-    PLACES
+    (0..PLACES).find(|&i| t.length[i] == 0).unwrap_or(PLACES)
 }

@@ -3,7 +3,6 @@
 use Prim.Native.Nat.{ℕ, ◌+◌, ◌*◌, ◌/◌, ◌%◌, ◌<◌}
 use mathlib.Core.Path.{◌≡◌, refl, sym, ap, ap₂, ◌∙◌}
 use mathlib.Core.List.{List, [], ◌∷◌, ◌++◌, append-nil}
-use mathlib.Core.Logic.{◌≢◌}
 use mathlib.Core.Option.{Option, none, some}
 use native.Mathlib.Omega.{arith}
 use lib.Dec.{eqb}
@@ -12,19 +11,16 @@ use Rattle.tally.specs.Tests.{pick}
 use Rattle.octets.specs.Numbers.{pair_of, value_from, value_of, four_octets}
 use Rattle.naming.specs.declared.Number.{Number}
 use Rattle.rules.specs.declared.Reply.{Reply}
-use Rattle.rules.specs.declared.Reply.TheVariants as reply-is
-use Rattle.output.specs.Output.{Output, output_at, puts}
+use Rattle.rules.specs.declared.Reply.TheVariants.{Recorded, Refreshed, Gone, UnknownGoodbye}
+use Rattle.output.specs.declared.Output.{Output as Lent}
+use Rattle.output.specs.Output.{Put, seen, Output, output_at, puts}
 use Rattle.output.proofs.OutputLaws.{puts-fits}
-use Rattle.walk.specs.declared.Extent.{Extent}
-use Rattle.walk.specs.declared.Extent.TheVariants as extent-is
-use Rattle.octet_answers.specs.Answers.{back, on_extent, reply_octets, place_octets}
-
-module _ {x : Extent} (ss : List (List ℕ)) (answers : ℕ → List (List ℕ)) where
-  pub refused-is : {n : ℕ} → x ≡ extent-is.Refused n → back n ss ≡ on_extent x ss answers
-  refused-is e = sym (ap (λ (y : Extent). on_extent y ss answers) e)
-
-  pub read_is : {e : ℕ} {ts : List (List ℕ)} → x ≡ extent-is.Octets e → ts ≡ answers e → back 0 ts ≡ on_extent x ss answers
-  read_is e q = ap (back 0) q ∙ sym (ap (λ (y : Extent). on_extent y ss answers) e)
+use Rattle.std.specs.Prelude.{Result, Ok, Err, ⊤}
+use Rattle.refusal.specs.Refusal.{refusal_of, numbered}
+use Rattle.refusal.specs.declared.Refusal.{Refusal}
+use Rattle.refusal.specs.declared.NoRefusal.{NoRefusal}
+use Rattle.refusal.specs.declared.Refusal.TheVariants.{Unfit, NoPort, NoFrame, NotAsDue, RunsPast, OutOfPlace, PortFull, CommonTaken, BreaksARule, NoRoom, NoCapture, Torn, ChassisLoud, TooShort}
+use Rattle.octet_answers.specs.Answers.{place_octets, reply_octets}
 
 -- octets that are put into a slice of their length are what it then holds
 pub put_whole : (x l : List ℕ) {y : List ℕ} {at : ℕ} → length l ≡ length x → output_at y at ≡ puts x (output_at l 0) → y ≡ x
@@ -32,6 +28,10 @@ put_whole x l h e =
     ap (λ (o : Output). o.octets) (e ∙ puts-fits x l 0 (omega (arith, h)))
     ∙ ap (λ (k : List ℕ). x ++ k) (drop_of_length-le l {i = 0 + length x} (omega (arith, h)))
     ∙ append-nil x
+
+-- the same of what the code put into an output of a slice l; y is what the slice then holds
+pub filled : (x l : List ℕ) {y : List ℕ} {o p : Lent} → length l ≡ length x → seen o ≡ output_at l 0 → Put x o p → y ≡ p.octets.now → y ≡ x
+filled x l {y} {o} {p} h e d f = f ∙ put_whole x l h (d.put ∙ ap (puts x) e)
 
 -- one octet stored in a slice of one
 pub set-one : (l : List ℕ) (b : ℕ) → length l ≡ 1 → set l 0 b ≡ b ∷ []
@@ -50,15 +50,40 @@ two-slices e f = ap₂ (λ (l m : List ℕ). l ∷ m ∷ []) e f
 -- the answer to a frame that has a code
 abbrev pub reply_in : ℕ → Option Reply
 reply_in n =
-    pick (eqb n 1) (some reply-is.Recorded)
-    (pick (eqb n 2) (some reply-is.Refreshed) (pick (eqb n 3) (some reply-is.Gone) (pick (eqb n 4) (some reply-is.UnknownGoodbye) none)))
+    pick (eqb n 1) (some Recorded)
+    (pick (eqb n 2) (some Refreshed) (pick (eqb n 3) (some Gone) (pick (eqb n 4) (some UnknownGoodbye) none)))
 
-pub reply-back : (x : Reply) (a : List ℕ) → ((n : ℕ) → x ≢ reply-is.Refused n) → reply_in (get_or (reply_octets x a) 0 0) ≡ some x
-reply-back reply-is.Recorded a h = refl
-reply-back reply-is.Refreshed a h = refl
-reply-back reply-is.Gone a h = refl
-reply-back reply-is.UnknownGoodbye a h = refl
-reply-back (reply-is.Refused n) a h = absurd (h n refl)
+pub reply-back : (r : Reply) (a : List ℕ) → reply_in (get_or (reply_octets (Ok r) a) 0 0) ≡ some r
+reply-back Recorded a = refl
+reply-back Refreshed a = refl
+reply-back Gone a = refl
+reply-back UnknownGoodbye a = refl
+
+-- and what is returned tells which refusal it was, or that it was none
+unrefused : Result Refusal NoRefusal → Result ⊤ Refusal
+unrefused (Ok r) = Err r
+unrefused (Err n) = Ok _
+
+returned-back : (x : Result ⊤ Refusal) → unrefused (numbered (refusal_of x)) ≡ x
+unfolding unrefused
+returned-back (Ok u) = refl
+returned-back (Err Unfit) = refl
+returned-back (Err NoPort) = refl
+returned-back (Err NoFrame) = refl
+returned-back (Err NotAsDue) = refl
+returned-back (Err RunsPast) = refl
+returned-back (Err OutOfPlace) = refl
+returned-back (Err PortFull) = refl
+returned-back (Err CommonTaken) = refl
+returned-back (Err BreaksARule) = refl
+returned-back (Err NoRoom) = refl
+returned-back (Err NoCapture) = refl
+returned-back (Err Torn) = refl
+returned-back (Err ChassisLoud) = refl
+returned-back (Err TooShort) = refl
+
+pub returned-apart : (x y : Result ⊤ Refusal) → refusal_of x ≡ refusal_of y → x ≡ y
+returned-apart x y e = sym (returned-back x) ∙ ap (λ (n : ℕ). unrefused (numbered n)) e ∙ returned-back y
 
 -- a number of up to four octets, at a place of an answer
 pub record NumberAt (o : List ℕ) (at : ℕ) (n : Number) : Type 0 where

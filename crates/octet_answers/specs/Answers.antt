@@ -1,27 +1,16 @@
 -- The octets of each answer (X4), how many there are (X2), and what is returned beside them.
 -- A refusal leaves what stood in the answer, so each is said over that.
-use Rattle.std.specs.Prelude.{ℕ, ◌%◌, Bool, List, [], ◌∷◌, ◌++◌, length, replicate, eqb}
+use Rattle.std.specs.Prelude.{ℕ, ◌%◌, Bool, List, [], ◌∷◌, ◌++◌, length, replicate, eqb, Option, Some, None, Result, Ok, Err}
 use Rattle.tally.specs.Tests.{pick, both}
 use Rattle.tally.specs.Counts.{one}
 use Rattle.octets.specs.Numbers.{two_octets, four_octets}
-use Rattle.walk.specs.declared.Extent.{Extent}
-use Rattle.walk.specs.declared.Extent.TheVariants as extent-is
+use Rattle.refusal.specs.Refusal.{number_of, refusal_of}
+use Rattle.refusal.specs.declared.Refusal.{Refusal}
 use Rattle.naming.specs.declared.Number.{Number}
 use Rattle.reading.specs.declared.Reading.{Reading}
-use Rattle.writer.specs.Write.{refusal_of_written}
-use Rattle.writer.specs.declared.Written.{Written}
-use Rattle.writer.specs.declared.Written.TheVariants as written_is
-use Rattle.rules.specs.Answers.{refusal_of_reply}
 use Rattle.rules.specs.declared.Reply.{Reply}
-use Rattle.rules.specs.declared.Reply.TheVariants as reply-is
-use Rattle.questions.specs.Sight.{refusal_of_count, refusal_of_sight}
-use Rattle.questions.specs.declared.Count.{Count}
-use Rattle.questions.specs.declared.Count.TheVariants as count-is
+use Rattle.rules.specs.declared.Reply.TheVariants.{Recorded, Refreshed, Gone, UnknownGoodbye}
 use Rattle.questions.specs.declared.Sight.{Sight}
-use Rattle.questions.specs.declared.Sight.TheVariants as sight-is
-use Rattle.compare.specs.Compare.{refusal_of_compared}
-use Rattle.compare.specs.declared.Compared.{Compared}
-use Rattle.compare.specs.declared.Compared.TheVariants as compared_is
 use Rattle.octet_description.specs.Octets.{size, front_octets, description_octets}
 
 -- What comes back: the refusal number, 0 where there is none, and the slices in the order of the parameters
@@ -65,61 +54,63 @@ compared_long = 2
 
 -- Of a reading
 
--- of an LLDPDU of e octets
-abbrev pub verdict_octets : ℕ → Reading → List ℕ
-verdict_octets e r = two_octets e ++ (one r.htip ∷ [])
+abbrev pub verdict_octets : Reading → List ℕ
+verdict_octets r = two_octets r.octets ++ (one r.htip ∷ [])
 
-abbrev pub judged_octets : ℕ → Reading → List ℕ
-judged_octets e r = verdict_octets e r ++ front_octets r.description
+abbrev pub judged_octets : Reading → List ℕ
+judged_octets r = verdict_octets r ++ front_octets r.description
 
-abbrev pub on_extent : Extent → List (List ℕ) → (ℕ → List (List ℕ)) → Back
-on_extent (extent-is.Refused n) ss answers = back n ss
-on_extent (extent-is.Octets e) ss answers = back 0 (answers e)
+-- the slices ss as they were beside a refusal, and else what was read as octets
+abbrev pub on_reading : Result Reading Refusal → List (List ℕ) → (Reading → List (List ℕ)) → Back
+on_reading (Err e) ss answers = back (number_of e) ss
+on_reading (Ok r) ss answers = back 0 (answers r)
 
 -- judge: the answer a
 abbrev pub judge_right : List ℕ → Bool
 judge_right a = eqb (length a) judged_long
 
-unfoldable pub judged : Reading → List ℕ → Back
-judged r a = if_right (judge_right a) (a ∷ []) (on_extent r.extent (a ∷ []) (λ e. judged_octets e r ∷ []))
+unfoldable pub judged : Result Reading Refusal → List ℕ → Back
+judged q a = if_right (judge_right a) (a ∷ []) (on_reading q (a ∷ []) (λ r. judged_octets r ∷ []))
 
 -- read: the answer a and the description d
 abbrev pub read_right : List ℕ → List ℕ → Bool
 read_right a d = both (eqb (length a) verdict_long) (eqb (length d) size)
 
-unfoldable pub read_answer : Reading → List ℕ → List ℕ → Back
-read_answer r a d = if_right (read_right a d) (a ∷ d ∷ []) (on_extent r.extent (a ∷ d ∷ []) (λ e. verdict_octets e r ∷ description_octets r.description ∷ []))
+unfoldable pub read_answer : Result Reading Refusal → List ℕ → List ℕ → Back
+read_answer q a d = if_right (read_right a d) (a ∷ d ∷ []) (on_reading q (a ∷ d ∷ []) (λ r. verdict_octets r ∷ description_octets r.description ∷ []))
 
 -- Of what was written
 
-abbrev pub written_octets : Written → List ℕ → List ℕ
-written_octets (written_is.Octets n) a = two_octets n
-written_octets (written_is.Refused n) a = a
+abbrev pub written_octets : Result ℕ Refusal → List ℕ → List ℕ
+written_octets (Ok n) a = two_octets n
+written_octets (Err e) a = a
 
-unfoldable pub written : Written → List ℕ → Back
-written w a = answered written_long (refusal_of_written w) (written_octets w a) a
+unfoldable pub written : Result ℕ Refusal → List ℕ → Back
+written w a = answered written_long (refusal_of w) (written_octets w a) a
 
 -- Of a frame on a port
 
--- recorded, refreshed, gone, unknown goodbye
-abbrev pub reply_octets : Reply → List ℕ → List ℕ
-reply_octets reply-is.Recorded a = 1 ∷ []
-reply_octets reply-is.Refreshed a = 2 ∷ []
-reply_octets reply-is.Gone a = 3 ∷ []
-reply_octets reply-is.UnknownGoodbye a = 4 ∷ []
-reply_octets (reply-is.Refused n) a = a
+abbrev pub code_of : Reply → ℕ
+code_of Recorded = 1
+code_of Refreshed = 2
+code_of Gone = 3
+code_of UnknownGoodbye = 4
 
-unfoldable pub replied : Reply → List ℕ → Back
-replied x a = answered reply_long (refusal_of_reply x) (reply_octets x a) a
+abbrev pub reply_octets : Result Reply Refusal → List ℕ → List ℕ
+reply_octets (Ok r) a = code_of r ∷ []
+reply_octets (Err e) a = a
+
+unfoldable pub replied : Result Reply Refusal → List ℕ → Back
+replied x a = answered reply_long (refusal_of x) (reply_octets x a) a
 
 -- Of the two questions
 
-abbrev pub count_octets : Count → List ℕ → List ℕ
-count_octets (count-is.Holds n) a = n ∷ []
-count_octets (count-is.Refused n) a = a
+abbrev pub count_octets : Result ℕ Refusal → List ℕ → List ℕ
+count_octets (Ok n) a = n ∷ []
+count_octets (Err e) a = a
 
-unfoldable pub counted : Count → List ℕ → Back
-counted c a = answered count_long (refusal_of_count c) (count_octets c a) a
+unfoldable pub counted : Result ℕ Refusal → List ℕ → Back
+counted c a = answered count_long (refusal_of c) (count_octets c a) a
 
 -- its count of octets, 1 to 4, and its value (A4)
 abbrev pub number_octets : Number → List ℕ
@@ -128,19 +119,19 @@ number_octets n = n.octets % 256 ∷ four_octets n.value
 abbrev pub place_octets : ℕ → Number → Number → List ℕ
 place_octets k interface port = 1 ∷ (two_octets k ++ (number_octets interface ++ number_octets port))
 
-abbrev pub sight_octets : Sight → List ℕ → List ℕ
-sight_octets (sight-is.Refused n) a = a
-sight_octets sight-is.Nobody a = replicate sight_long 0
-sight_octets (sight-is.At k interface port) a = place_octets k interface port
+abbrev pub sight_octets : Result (Option Sight) Refusal → List ℕ → List ℕ
+sight_octets (Ok (Some s)) a = place_octets s.place s.interface s.port
+sight_octets (Ok None) a = replicate sight_long 0
+sight_octets (Err e) a = a
 
-unfoldable pub seen : Sight → List ℕ → Back
-seen x a = answered sight_long (refusal_of_sight x) (sight_octets x a) a
+unfoldable pub seen : Result (Option Sight) Refusal → List ℕ → Back
+seen x a = answered sight_long (refusal_of x) (sight_octets x a) a
 
 -- Of a comparison: how many entries stand in the list (D3)
 
-abbrev pub compared_octets : Compared → List ℕ → List ℕ
-compared_octets (compared_is.Listed n) a = two_octets n
-compared_octets (compared_is.Refused n) a = a
+abbrev pub compared_octets : Result ℕ Refusal → List ℕ → List ℕ
+compared_octets (Ok n) a = two_octets n
+compared_octets (Err e) a = a
 
-unfoldable pub compared_answer : Compared → List ℕ → Back
-compared_answer c a = answered compared_long (refusal_of_compared c) (compared_octets c a) a
+unfoldable pub compared_answer : Result ℕ Refusal → List ℕ → Back
+compared_answer c a = answered compared_long (refusal_of c) (compared_octets c a) a

@@ -1,17 +1,16 @@
 // The answers of a table: to a frame on a port, to the two questions, and to a comparison with another table.
 // Those of one octet are a code or a number; who sees an address has a place and two numbers.
 ghost use Rattle.std.specs.Prelude.{◌≡◌, [], ◌∷◌, length};
-ghost use Rattle.octets.specs.Numbers.{four_octets};
-ghost use Rattle.output.specs.Output.{output_at, puts};
-ghost use Rattle.octet_answers.specs.Answers.{back, sight_long, replied, counted, number_octets, place_octets, seen, compared_answer};
+ghost use Rattle.refusal.specs.Refusal.{refusal_of};
+ghost use Rattle.output.specs.Output.{Put};
+ghost use Rattle.octet_answers.specs.Answers.{back, sight_long, code_of, replied, counted, number_octets, place_octets, seen, compared_answer};
 
-use crate::WRONG_LENGTH;
-use compare::Compared;
 use naming::Number;
 use octet_description::put_two;
 use octets::low_of;
-use output::put_octet;
-use questions::{Count, Sight};
+use output::Output;
+use questions::Sight;
+use refusal::Refusal;
 use rules::Reply;
 use whole::clear;
 
@@ -24,112 +23,80 @@ pub const SIGHT: usize = 13;
 
 pub const COMPARED: usize = 2;
 
-const RECORDED: u8 = 1;
-
-const REFRESHED: u8 = 2;
-
-const GONE: u8 = 3;
-
-const UNKNOWN_GOODBYE: u8 = 4;
-
+// In front of a place; where nobody sees the address there is a 0.
 const SEEN: u8 = 1;
 
-// An answer of one octet; nothing is refused.
-fn answer_octet(answer: &mut [u8], b: u8) -> u8
-    requires { length answer.old ≡ 1 }
-    ensures { back result (answer.new ∷ []) ≡ back 0 ((b ∷ []) ∷ []) }
+fn code_of(reply: Reply) -> u8
+    ensures { result ≡ code_of reply }
 {
-    answer[0] = b;
-    0
+    match reply {
+        Reply::Recorded => 1,
+        Reply::Refreshed => 2,
+        Reply::Gone => 3,
+        Reply::UnknownGoodbye => 4,
+    }
 }
 
-pub fn answer_reply(answer: &mut [u8], reply: Reply) -> u8
-    ensures { back result (answer.new ∷ []) ≡ replied reply answer.old }
+pub fn answer_reply(answer: &mut [u8], reply: Result<Reply, Refusal>) -> Result<(), Refusal>
+    ensures { back (refusal_of result) (answer.new ∷ []) ≡ replied reply answer.old }
 {
     if answer.len() != REPLY {
-        return WRONG_LENGTH;
+        return Err(Refusal::Unfit);
     }
-    match reply {
-        Reply::Recorded => answer_octet(answer, RECORDED),
-        Reply::Refreshed => answer_octet(answer, REFRESHED),
-        Reply::Gone => answer_octet(answer, GONE),
-        Reply::UnknownGoodbye => answer_octet(answer, UNKNOWN_GOODBYE),
-        Reply::Refused(n) => n,
-    }
+    answer[0] = code_of(reply?);
+    Ok(())
 }
 
-pub fn answer_count(answer: &mut [u8], count: Count) -> u8
-    ensures { back result (answer.new ∷ []) ≡ counted count answer.old }
+pub fn answer_count(answer: &mut [u8], count: Result<u8, Refusal>) -> Result<(), Refusal>
+    ensures { back (refusal_of result) (answer.new ∷ []) ≡ counted count answer.old }
 {
     if answer.len() != COUNT {
-        return WRONG_LENGTH;
+        return Err(Refusal::Unfit);
     }
-    match count {
-        Count::Holds(n) => answer_octet(answer, n),
-        Count::Refused(n) => n,
-    }
+    answer[0] = count?;
+    Ok(())
 }
 
-// High octet first.
-fn put_four(out: &mut [u8], at: usize, n: u32) -> usize
-    ensures { output_at out.new result ≡ puts (four_octets n) (output_at out.old at) }
+fn put_number(out: &mut Output, n: Number)
+    ensures { Put (number_octets n) out.old out.new }
 {
-    let a = put_octet(out, at, (n / 16777216 % 256) as u8);
-    let b = put_octet(out, a, (n / 65536 % 256) as u8);
-    put_two(out, b, n as usize)
-}
-
-fn put_number(out: &mut [u8], at: usize, n: Number) -> usize
-    ensures { output_at out.new result ≡ puts (number_octets n) (output_at out.old at) }
-{
-    let a = put_octet(out, at, low_of(n.octets));
-    put_four(out, a, n.value)
+    out.put_octet(low_of(n.octets));
+    out.put_all(&n.value.to_be_bytes());
 }
 
 // A place, with interface type and port number (N11).
-fn answer_place(answer: &mut [u8], place: usize, interface: Number, port: Number) -> u8
+fn put_sight(answer: &mut [u8], s: Sight)
     requires { length answer.old ≡ sight_long }
-    ensures { back result (answer.new ∷ []) ≡ back 0 (place_octets place interface port ∷ []) }
+    ensures { answer.new ≡ place_octets s.place s.interface s.port }
 {
-    let a = put_octet(answer, 0, SEEN);
-    let b = put_two(answer, a, place);
-    let c = put_number(answer, b, interface);
-    put_number(answer, c, port);
-    0
+    let mut out = Output::new(answer);
+    out.put_octet(SEEN);
+    put_two(&mut out, s.place);
+    put_number(&mut out, s.interface);
+    put_number(&mut out, s.port);
 }
 
-pub fn answer_sight(answer: &mut [u8], sight: Sight) -> u8
-    ensures { back result (answer.new ∷ []) ≡ seen sight answer.old }
+pub fn answer_sight(answer: &mut [u8], sight: Result<Option<Sight>, Refusal>) -> Result<(), Refusal>
+    ensures { back (refusal_of result) (answer.new ∷ []) ≡ seen sight answer.old }
 {
     if answer.len() != SIGHT {
-        return WRONG_LENGTH;
+        return Err(Refusal::Unfit);
     }
-    match sight {
-        Sight::Refused(n) => n,
-        Sight::Nobody => {
-            clear(answer);
-            0
-        }
-        Sight::At {
-            place,
-            interface,
-            port,
-        } => answer_place(answer, place, interface, port),
+    match sight? {
+        Some(s) => put_sight(answer, s),
+        None => clear(answer),
     }
+    Ok(())
 }
 
 // How many entries stand in the list (D3).
-pub fn answer_compared(answer: &mut [u8], c: Compared) -> u8
-    ensures { back result (answer.new ∷ []) ≡ compared_answer c answer.old }
+pub fn answer_compared(answer: &mut [u8], entries: Result<usize, Refusal>) -> Result<(), Refusal>
+    ensures { back (refusal_of result) (answer.new ∷ []) ≡ compared_answer entries answer.old }
 {
     if answer.len() != COMPARED {
-        return WRONG_LENGTH;
+        return Err(Refusal::Unfit);
     }
-    match c {
-        Compared::Refused(n) => n,
-        Compared::Listed(n) => {
-            put_two(answer, 0, n);
-            0
-        }
-    }
+    let n = entries?;
+    put_two(&mut Output::new(answer), n);
+    Ok(())
 }

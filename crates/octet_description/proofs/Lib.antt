@@ -1,5 +1,4 @@
 -- The laws of this crate's definitions.
 -- A crate above cites them by name.
-pub mod PutLaws
 pub mod OctetsLaws
 pub mod Sole

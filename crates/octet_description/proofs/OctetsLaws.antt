@@ -13,32 +13,28 @@ use lib.Dec.{ltb}
 use borrow.Author.Tests.{ltb-true}
 use Rattle.tally.proofs.TestsLaws.{held}
 use Rattle.tally.specs.Counts.{one}
+use Rattle.std.specs.Prelude.{Option, Some, None}
 use Rattle.tally.specs.Tab.{tab}
 use Rattle.tally.proofs.TabLaws.{tab-same, tab-get_or}
 use Rattle.octets.specs.Numbers.{two_octets}
 use Rattle.text.specs.Part.{part, nowhere, most_parts, parts_in}
 use Rattle.text.specs.declared.Part.{Part}
 use Rattle.text.specs.declared.Parts.{Parts}
-use Rattle.text.specs.declared.Optional.{Optional}
-use Rattle.text.specs.declared.Optional.TheVariants as optional-is
 use Rattle.text.proofs.PartsLaws.{front_at, past-count}
 use Rattle.ids.specs.declared.IdPart.{IdPart}
 use Rattle.system.specs.declared.Capabilities.{Capabilities}
-use Rattle.system.specs.declared.Capabilities.TheVariants as capabilities-are
 use Rattle.system.specs.declared.System.{System}
-use Rattle.reading.specs.Reading.{link_parts}
 use Rattle.reading.specs.declared.Link.{Link}
-use Rattle.reading.specs.declared.Link.TheVariants as link-is
 use Rattle.reading.specs.declared.Description.{Description}
-use Rattle.octet_description.specs.Octets.{size, part_octets, id_octets, optional_octets, link_octets, flags_octets, parts_octets, front_octets, strings_octets, description_octets, number_from, part_from, id_from, optional_from, link_from, flags_from, parts_from, system_from, description_in, presences_ok}
+use Rattle.octet_description.specs.Octets.{size, part_octets, id_octets, optional_octets, table_octets, link_octets, sets_octets, flags_octets, parts_octets, front_octets, strings_octets, description_octets, number_from, part_from, id_from, optional_from, link_from, flags_from, parts_from, system_from, description_in, presences_ok}
 
 -- A system and a description, with their fields known under other names
 
-pub system-same : (x : System) {n e : Part} {c : Capabilities} {m : Parts} → n ≡ x.name → e ≡ x.description → c ≡ x.capabilities → m ≡ x.management
+pub system-same : (x : System) {n e : Part} {c : Option Capabilities} {m : Parts} → n ≡ x.name → e ≡ x.description → c ≡ x.capabilities → m ≡ x.management
     → ◌≡◌ {A = System} (record { name = n; description = e; capabilities = c; management = m }) x
 system-same x p q r s = rw (p, q, r, s)
 
-pub description-same : (d : Description) {c p : IdPart} {s : ℕ} {w k f m n : Part} {l : Link} {e a : Optional} {x : System}
+pub description-same : (d : Description) {c p : IdPart} {s : ℕ} {w k f m n : Part} {l : Option Link} {e a : Option Part} {x : System}
     → c ≡ d.chassis → p ≡ d.port → s ≡ d.seconds → w ≡ d.words → k ≡ d.category → f ≡ d.manufacturer → m ≡ d.model → n ≡ d.number
     → l ≡ d.link → e ≡ d.extension → a ≡ d.list → x ≡ d.system
     → ◌≡◌ {A = Description}
@@ -61,39 +57,42 @@ description-same d c p s w k f m n l e a x = rw (c, p, s, w, k, f, m, n, l, e, a
 
 -- What may be absent, in one form: whether it is there, and what stands behind the presence
 
-abbrev is_present : Optional → Bool
-is_present optional-is.Absent = false
-is_present (optional-is.Present p) = true
+abbrev is_there : {A : Type 0} → Option A → Bool
+is_there None = false
+is_there (Some x) = true
 
-abbrev inside : Optional → Part
-inside optional-is.Absent = nowhere
-inside (optional-is.Present p) = p
+abbrev inside : Option Part → Part
+inside None = nowhere
+inside (Some p) = p
 
-abbrev optional_form : Optional → List ℕ
-optional_form o = one (is_present o) ∷ part_octets (inside o)
+abbrev optional_form : Option Part → List ℕ
+optional_form o = one (is_there o) ∷ part_octets (inside o)
 
-optional-form : (o : Optional) → optional_octets o ≡ optional_form o
-optional-form optional-is.Absent = refl
-optional-form (optional-is.Present p) = refl
+optional-form : (o : Option Part) → optional_octets o ≡ optional_form o
+optional-form None = refl
+optional-form (Some p) = refl
 
-abbrev is_flagged : Capabilities → Bool
-is_flagged capabilities-are.Absent = false
-is_flagged (capabilities-are.Flags able enabled) = true
+abbrev table_inside : Option Link → Link
+table_inside None = record { interface = nowhere; port = nowhere; addresses = nowhere }
+table_inside (Some l) = l
 
-abbrev able_in : Capabilities → ℕ
-able_in capabilities-are.Absent = 0
-able_in (capabilities-are.Flags able enabled) = able
+abbrev link_form : Option Link → List ℕ
+link_form l = one (is_there l) ∷ table_octets (table_inside l)
 
-abbrev enabled_in : Capabilities → ℕ
-enabled_in capabilities-are.Absent = 0
-enabled_in (capabilities-are.Flags able enabled) = enabled
+link-form : (l : Option Link) → link_octets l ≡ link_form l
+link-form None = refl
+link-form (Some l) = refl
 
-abbrev flags_form : Capabilities → List ℕ
-flags_form c = one (is_flagged c) ∷ (two_octets (able_in c) ++ two_octets (enabled_in c))
+abbrev sets_inside : Option Capabilities → Capabilities
+sets_inside None = record { able = 0; enabled = 0 }
+sets_inside (Some c) = c
 
-flags-form : (c : Capabilities) → flags_octets c ≡ flags_form c
-flags-form capabilities-are.Absent = refl
-flags-form (capabilities-are.Flags able enabled) = refl
+abbrev flags_form : Option Capabilities → List ℕ
+flags_form c = one (is_there c) ∷ sets_octets (sets_inside c)
+
+flags-form : (c : Option Capabilities) → flags_octets c ≡ flags_form c
+flags-form None = refl
+flags-form (Some c) = refl
 
 -- the octets of a description, with those of what may be absent in that form
 abbrev system_form : System → List ℕ
@@ -101,11 +100,11 @@ system_form x = part_octets x.name ++ (part_octets x.description ++ (flags_form 
 
 abbrev description_form : Description → List ℕ
 description_form d =
-    front_octets d ++ (strings_octets d ++ ((link_octets d.link ++ (optional_form d.extension ++ optional_form d.list)) ++ system_form d.system))
+    front_octets d ++ (strings_octets d ++ ((link_form d.link ++ (optional_form d.extension ++ optional_form d.list)) ++ system_form d.system))
 
 description-form : (d : Description) → description_octets d ≡ description_form d
 unfolding description_octets
-description-form d = rw (optional-form d.extension, optional-form d.list, flags-form d.system.capabilities)
+description-form d = rw (link-form d.link, optional-form d.extension, optional-form d.list, flags-form d.system.capabilities)
 
 -- How many octets there are
 
@@ -125,7 +124,7 @@ pub presences-written : (d : Description) → presences_ok (description_octets d
 unfolding presences_ok
 presences-written d =
     ap presences_ok (description-form d)
-    ∙ rw (one-small (link_parts d.link).there, one-small (is_present d.extension), one-small (is_present d.list), one-small (is_flagged d.system.capabilities))
+    ∙ rw (one-small (is_there d.link), one-small (is_there d.extension), one-small (is_there d.list), one-small (is_there d.system.capabilities))
 
 -- and one that passes is no other (X5)
 pub presences-are : (o : List ℕ) → presences_ok o ≡ true → (get_or o 32 0 ≤ 1) × ((get_or o 45 0 ≤ 1) × ((get_or o 50 0 ≤ 1) × (get_or o 63 0 ≤ 1)))
@@ -141,17 +140,17 @@ pub record SmallPart (p : Part) : Type 0 where
   pub start : p.start < 65536
   pub len : p.len < 65536
 
-abbrev pub SmallOptional : Optional → Type 0
-SmallOptional optional-is.Absent = Unit {0}
-SmallOptional (optional-is.Present p) = SmallPart p
+abbrev pub SmallOptional : Option Part → Type 0
+SmallOptional None = Unit {0}
+SmallOptional (Some p) = SmallPart p
 
-abbrev pub SmallLink : Link → Type 0
-SmallLink link-is.Absent = Unit {0}
-SmallLink (link-is.Table i p a) = SmallPart i × (SmallPart p × SmallPart a)
+abbrev pub SmallLink : Option Link → Type 0
+SmallLink None = Unit {0}
+SmallLink (Some l) = SmallPart l.interface × (SmallPart l.port × SmallPart l.addresses)
 
-abbrev pub SmallFlags : Capabilities → Type 0
-SmallFlags capabilities-are.Absent = Unit {0}
-SmallFlags (capabilities-are.Flags able enabled) = (able < 65536) × (enabled < 65536)
+abbrev pub SmallFlags : Option Capabilities → Type 0
+SmallFlags None = Unit {0}
+SmallFlags (Some c) = (c.able < 65536) × (c.enabled < 65536)
 
 pub record SmallParts (l : Parts) : Type 0 where
   pub room : length l.parts ≡ most_parts
@@ -187,17 +186,17 @@ part-back p s = ap₂ part (number-back p.start s.start) (number-back p.len s.le
 id-back : (i : IdPart) → SmallPart i.octets → id_from (id_octets i) 0 ≡ i
 id-back i s = ap (λ (p : Part). record { subtype = i.subtype; octets = p }) (part-back i.octets s)
 
-optional-back : (o : Optional) → SmallOptional o → optional_from (optional_form o) 0 ≡ o
-optional-back optional-is.Absent s = refl
-optional-back (optional-is.Present p) s = ap optional-is.Present (part-back p s)
+optional-back : (o : Option Part) → SmallOptional o → optional_from (optional_form o) 0 ≡ o
+optional-back None s = refl
+optional-back (Some p) s = rw (part-back p s)
 
-link-back : (l : Link) → SmallLink l → link_from (link_octets l) 0 ≡ l
-link-back link-is.Absent s = refl
-link-back (link-is.Table i p a) s = rw (part-back i s.0, part-back p s.1.0, part-back a s.1.1)
+link-back : (l : Option Link) → SmallLink l → link_from (link_form l) 0 ≡ l
+link-back None s = refl
+link-back (Some l) s = rw (part-back l.interface s.0, part-back l.port s.1.0, part-back l.addresses s.1.1)
 
-flags-back : (c : Capabilities) → SmallFlags c → flags_from (flags_form c) 0 ≡ c
-flags-back capabilities-are.Absent s = refl
-flags-back (capabilities-are.Flags able enabled) s = ap₂ capabilities-are.Flags (number-back able s.0) (number-back enabled s.1)
+flags-back : (c : Option Capabilities) → SmallFlags c → flags_from (flags_form c) 0 ≡ c
+flags-back None s = refl
+flags-back (Some c) s = rw (number-back c.able s.0, number-back c.enabled s.1)
 
 module _ (l : Parts) (s : SmallParts l) where
   abbrev at : ℕ → Part

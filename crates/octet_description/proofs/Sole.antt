@@ -14,13 +14,13 @@ use Rattle.octet_description.proofs.taking.description_in.Reads as description-i
 use Rattle.octet_description.proofs.taking.presences_fit.Kinds as presences-fit-kinds
 use Rattle.octet_description.proofs.taking.presences_fit.Reads as presences-fit
 
-pub put-two-sole : SolePut 1 two-kinds.ps two-kinds.r two.Post (λ κs x. x.0.now)
+pub put-two-sole : SolePut 2 two-kinds.ps two-kinds.r two.Post (λ κs x. x.0.now)
 put-two-sole κs a r q x y = same-put
 
-pub put-front-sole : SolePut 1 front-kinds.ps front-kinds.r front.Post (λ κs x. x.0.now)
+pub put-front-sole : SolePut 2 front-kinds.ps front-kinds.r front.Post (λ κs x. x.0.now)
 put-front-sole κs a r q x y = same-put
 
-pub put-description-sole : SolePut 1 description-kinds.ps description-kinds.r description.Post (λ κs x. x.0.now)
+pub put-description-sole : SolePut 2 description-kinds.ps description-kinds.r description.Post (λ κs x. x.0.now)
 put-description-sole κs a r q x y = same-put
 
 pub description-in-sole : Sole 1 description-in-kinds.ps description-in-kinds.r description-in.Post

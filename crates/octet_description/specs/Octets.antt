@@ -1,22 +1,15 @@
 -- A description as octets (X5), for a caller that has no structs of ours: how it is written down, and which description octets mean.
 -- Numbers have two octets, high octet first; a part is its start and its length; presence is 0 or 1, and what is absent is 0.
-use Rattle.std.specs.Prelude.{ℕ, ◌+◌, List, [], ◌∷◌, ◌++◌, Bool, length, get_or, eqb, ltb}
+use Rattle.std.specs.Prelude.{ℕ, ◌+◌, List, [], ◌∷◌, ◌++◌, Bool, length, get_or, eqb, ltb, Option, Some, None}
 use Rattle.tally.specs.Tests.{pick, all}
-use Rattle.tally.specs.Counts.{one}
 use Rattle.octets.specs.Numbers.{pair_of, two_octets}
 use Rattle.text.specs.Part.{part, nowhere, parts_in}
 use Rattle.text.specs.declared.Part.{Part}
 use Rattle.text.specs.declared.Parts.{Parts}
-use Rattle.text.specs.declared.Optional.{Optional}
-use Rattle.text.specs.declared.Optional.TheVariants as optional-is
 use Rattle.ids.specs.declared.IdPart.{IdPart}
 use Rattle.system.specs.declared.Capabilities.{Capabilities}
-use Rattle.system.specs.declared.Capabilities.TheVariants as capabilities-are
 use Rattle.system.specs.declared.System.{System}
-use Rattle.reading.specs.Reading.{link_parts}
 use Rattle.reading.specs.declared.Link.{Link}
-use Rattle.reading.specs.declared.Link.TheVariants as link-is
-use Rattle.reading.specs.declared.LinkParts.{LinkParts}
 use Rattle.reading.specs.declared.Description.{Description}
 
 -- how many octets a description has
@@ -32,19 +25,23 @@ abbrev pub id_octets : IdPart → List ℕ
 id_octets i = i.subtype ∷ part_octets i.octets
 
 -- presence, and a part; that of what is absent is 0
-abbrev pub optional_octets : Optional → List ℕ
-optional_octets optional-is.Absent = 0 ∷ part_octets nowhere
-optional_octets (optional-is.Present p) = 1 ∷ part_octets p
+abbrev pub optional_octets : Option Part → List ℕ
+optional_octets None = 0 ∷ part_octets nowhere
+optional_octets (Some p) = 1 ∷ part_octets p
 
-abbrev pub link_parts_octets : LinkParts → List ℕ
-link_parts_octets t = one t.there ∷ (part_octets t.interface ++ (part_octets t.port ++ part_octets t.addresses))
+abbrev pub table_octets : Link → List ℕ
+table_octets l = part_octets l.interface ++ (part_octets l.port ++ part_octets l.addresses)
 
-abbrev pub link_octets : Link → List ℕ
-link_octets l = link_parts_octets (link_parts l)
+abbrev pub link_octets : Option Link → List ℕ
+link_octets None = 0 ∷ table_octets (record { interface = nowhere; port = nowhere; addresses = nowhere })
+link_octets (Some l) = 1 ∷ table_octets l
 
-abbrev pub flags_octets : Capabilities → List ℕ
-flags_octets capabilities-are.Absent = 0 ∷ (two_octets 0 ++ two_octets 0)
-flags_octets (capabilities-are.Flags able enabled) = 1 ∷ (two_octets able ++ two_octets enabled)
+abbrev pub sets_octets : Capabilities → List ℕ
+sets_octets c = two_octets c.able ++ two_octets c.enabled
+
+abbrev pub flags_octets : Option Capabilities → List ℕ
+flags_octets None = 0 ∷ sets_octets (record { able = 0; enabled = 0 })
+flags_octets (Some c) = 1 ∷ sets_octets c
 
 -- how many parts, and room for four; a part that there is not is 0
 abbrev pub parts_octets : List Part → List ℕ
@@ -83,14 +80,15 @@ abbrev pub is_there : List ℕ → ℕ → Bool
 is_there o at = eqb (get_or o at 0) 1
 
 -- what is absent is not looked at
-abbrev pub optional_from : List ℕ → ℕ → Optional
-optional_from o at = pick (is_there o at) (optional-is.Present (part_from o (at + 1))) optional-is.Absent
+abbrev pub optional_from : List ℕ → ℕ → Option Part
+optional_from o at = pick (is_there o at) (Some (part_from o (at + 1))) None
 
-abbrev pub link_from : List ℕ → ℕ → Link
-link_from o at = pick (is_there o at) (link-is.Table (part_from o (at + 1)) (part_from o (at + 5)) (part_from o (at + 9))) link-is.Absent
+abbrev pub link_from : List ℕ → ℕ → Option Link
+link_from o at =
+    pick (is_there o at) (Some (record { interface = part_from o (at + 1); port = part_from o (at + 5); addresses = part_from o (at + 9) })) None
 
-abbrev pub flags_from : List ℕ → ℕ → Capabilities
-flags_from o at = pick (is_there o at) (capabilities-are.Flags (number_from o (at + 1)) (number_from o (at + 3))) capabilities-are.Absent
+abbrev pub flags_from : List ℕ → ℕ → Option Capabilities
+flags_from o at = pick (is_there o at) (Some (record { able = number_from o (at + 1); enabled = number_from o (at + 3) })) None
 
 abbrev pub parts_from : List ℕ → ℕ → Parts
 parts_from o at =

@@ -1,6 +1,6 @@
 // A description as octets (X5), for a caller that has no structs of ours: put into a lent output, and read from a lent slice.
 // Any description and any octets get an answer; what octets past the end would say is 0.
-#![tactic(auto)]
+#![tactic(auto, unfolding(output::specs::Output::puts))]
 
 mod putting;
 mod taking;

@@ -1,146 +1,164 @@
 // A description put into a lent output, field by field in the order of X5.
-// Every function answers the place behind its octets; what does not fit is left out.
-ghost use Rattle.std.specs.Prelude.{◌≡◌, ◌∷◌, ◌++◌};
-ghost use Rattle.output.specs.Output.{output_at, puts};
+// Every function puts its octets behind what was put before; what does not fit is left out.
+ghost use Rattle.std.specs.Prelude.{◌∷◌};
+ghost use Rattle.output.specs.Output.{Put};
 ghost use Rattle.octets.specs.Numbers.{two_octets};
 ghost use Rattle.text.specs.Part.{parts_in};
-ghost use Rattle.octet_description.specs.Octets.{part_octets, id_octets, optional_octets, link_octets, flags_octets, parts_octets, front_octets, strings_octets, optional_fields_octets, system_octets, description_octets};
+ghost use Rattle.octet_description.specs.Octets.{part_octets, id_octets, optional_octets, table_octets, link_octets, sets_octets, flags_octets, parts_octets, front_octets, strings_octets, optional_fields_octets, system_octets, description_octets};
 
 use ids::IdPart;
 use octets::low_of;
-use output::put_octet;
-use reading::{Description, Link, link_parts};
+use output::Output;
+use reading::{Description, Link};
 use system::{Capabilities, System};
-use text::{Optional, Part, Parts, nth_part, part_count};
+use text::{Part, Parts, nth_part, part_count};
 
 const ABSENT: u8 = 0;
 
 const PRESENT: u8 = 1;
 
+// The part that stands for an absent one.
+const NOWHERE: Part = Part { start: 0, len: 0 };
+
 // A number of two octets, high octet first.
-pub fn put_two(out: &mut [u8], at: usize, n: usize) -> usize
-    ensures { output_at out.new result ≡ puts (two_octets n) (output_at out.old at) }
+pub fn put_two(out: &mut Output, n: usize)
+    ensures { Put (two_octets n) out.old out.new }
 {
-    let a = put_octet(out, at, (n / 256 % 256) as u8);
-    put_octet(out, a, (n % 256) as u8)
+    out.put_octet((n / 256 % 256) as u8);
+    out.put_octet((n % 256) as u8);
 }
 
-fn put_part(out: &mut [u8], at: usize, p: Part) -> usize
-    ensures { output_at out.new result ≡ puts (part_octets p) (output_at out.old at) }
+fn put_part(out: &mut Output, p: Part)
+    ensures { Put (part_octets p) out.old out.new }
 {
-    let a = put_two(out, at, p.start);
-    put_two(out, a, p.len)
+    put_two(out, p.start);
+    put_two(out, p.len);
 }
 
 // An octet and a part behind it: a subtype, or a presence.
-fn put_marked(out: &mut [u8], at: usize, mark: u8, p: Part) -> usize
-    ensures { output_at out.new result ≡ puts (mark ∷ part_octets p) (output_at out.old at) }
+fn put_marked(out: &mut Output, mark: u8, p: Part)
+    ensures { Put (mark ∷ part_octets p) out.old out.new }
 {
-    let a = put_octet(out, at, mark);
-    put_part(out, a, p)
+    out.put_octet(mark);
+    put_part(out, p);
 }
 
-fn put_id(out: &mut [u8], at: usize, i: IdPart) -> usize
-    ensures { output_at out.new result ≡ puts (id_octets i) (output_at out.old at) }
+fn put_id(out: &mut Output, i: IdPart)
+    ensures { Put (id_octets i) out.old out.new }
 {
-    put_marked(out, at, i.subtype, i.octets)
+    put_marked(out, i.subtype, i.octets);
 }
 
-fn put_optional(out: &mut [u8], at: usize, o: Optional) -> usize
-    ensures { output_at out.new result ≡ puts (optional_octets o) (output_at out.old at) }
+fn put_optional(out: &mut Output, o: Option<Part>)
+    ensures { Put (optional_octets o) out.old out.new }
 {
     match o {
-        Optional::Absent => put_marked(out, at, ABSENT, Part { start: 0, len: 0 }),
-        Optional::Present(p) => put_marked(out, at, PRESENT, p),
+        None => put_marked(out, ABSENT, NOWHERE),
+        Some(p) => put_marked(out, PRESENT, p),
     }
 }
 
-fn put_link(out: &mut [u8], at: usize, l: Link) -> usize
-    ensures { output_at out.new result ≡ puts (link_octets l) (output_at out.old at) }
+fn put_table(out: &mut Output, mark: u8, l: Link)
+    ensures { Put (mark ∷ table_octets l) out.old out.new }
 {
-    let t = link_parts(l);
-    let mark = if t.there { PRESENT } else { ABSENT };
-    let a = put_marked(out, at, mark, t.interface);
-    let b = put_part(out, a, t.port);
-    put_part(out, b, t.addresses)
+    put_marked(out, mark, l.interface);
+    put_part(out, l.port);
+    put_part(out, l.addresses);
 }
 
-fn put_sets(out: &mut [u8], at: usize, mark: u8, able: u16, enabled: u16) -> usize
-    ensures { output_at out.new result ≡ puts (mark ∷ (two_octets able ++ two_octets enabled)) (output_at out.old at) }
+fn put_link(out: &mut Output, l: Option<Link>)
+    ensures { Put (link_octets l) out.old out.new }
 {
-    let a = put_octet(out, at, mark);
-    let b = put_two(out, a, able as usize);
-    put_two(out, b, enabled as usize)
+    match l {
+        None => put_table(
+            out,
+            ABSENT,
+            Link {
+                interface: NOWHERE,
+                port: NOWHERE,
+                addresses: NOWHERE,
+            },
+        ),
+        Some(t) => put_table(out, PRESENT, t),
+    }
 }
 
-fn put_flags(out: &mut [u8], at: usize, c: Capabilities) -> usize
-    ensures { output_at out.new result ≡ puts (flags_octets c) (output_at out.old at) }
+fn put_sets(out: &mut Output, mark: u8, c: Capabilities)
+    ensures { Put (mark ∷ sets_octets c) out.old out.new }
+{
+    out.put_octet(mark);
+    put_two(out, c.able as usize);
+    put_two(out, c.enabled as usize);
+}
+
+fn put_flags(out: &mut Output, c: Option<Capabilities>)
+    ensures { Put (flags_octets c) out.old out.new }
 {
     match c {
-        Capabilities::Absent => put_sets(out, at, ABSENT, 0, 0),
-        Capabilities::Flags { able, enabled } => put_sets(out, at, PRESENT, able, enabled),
+        None => put_sets(
+            out,
+            ABSENT,
+            Capabilities {
+                able: 0,
+                enabled: 0,
+            },
+        ),
+        Some(flags) => put_sets(out, PRESENT, flags),
     }
 }
 
 // How many there are, and all four.
-fn put_parts(out: &mut [u8], at: usize, l: Parts) -> usize
-    ensures { output_at out.new result ≡ puts (parts_octets (parts_in l)) (output_at out.old at) }
+fn put_parts(out: &mut Output, l: Parts)
+    ensures { Put (parts_octets (parts_in l)) out.old out.new }
 {
-    let a = put_marked(out, at, low_of(part_count(l)), nth_part(l, 0));
-    let b = put_part(out, a, nth_part(l, 1));
-    let c = put_part(out, b, nth_part(l, 2));
-    put_part(out, c, nth_part(l, 3))
+    put_marked(out, low_of(part_count(l)), nth_part(l, 0));
+    put_part(out, nth_part(l, 1));
+    put_part(out, nth_part(l, 2));
+    put_part(out, nth_part(l, 3));
 }
 
 // Chassis, port ID and seconds.
-pub fn put_front(out: &mut [u8], at: usize, d: Description) -> usize
-    ensures { output_at out.new result ≡ puts (front_octets d) (output_at out.old at) }
+pub fn put_front(out: &mut Output, d: Description)
+    ensures { Put (front_octets d) out.old out.new }
 {
-    let chassis = d.chassis;
-    let port = d.port;
-    let a = put_id(out, at, chassis);
-    let b = put_id(out, a, port);
-    put_two(out, b, d.seconds as usize)
+    put_id(out, d.chassis);
+    put_id(out, d.port);
+    put_two(out, d.seconds as usize);
 }
 
-fn put_strings(out: &mut [u8], at: usize, d: Description) -> usize
-    ensures { output_at out.new result ≡ puts (strings_octets d) (output_at out.old at) }
+fn put_strings(out: &mut Output, d: Description)
+    ensures { Put (strings_octets d) out.old out.new }
 {
-    let a = put_part(out, at, d.words);
-    let b = put_part(out, a, d.category);
-    let c = put_part(out, b, d.manufacturer);
-    let e = put_part(out, c, d.model);
-    put_part(out, e, d.number)
+    put_part(out, d.words);
+    put_part(out, d.category);
+    put_part(out, d.manufacturer);
+    put_part(out, d.model);
+    put_part(out, d.number);
 }
 
-fn put_optional_fields(out: &mut [u8], at: usize, d: Description) -> usize
-    ensures { output_at out.new result ≡ puts (optional_fields_octets d) (output_at out.old at) }
+fn put_optional_fields(out: &mut Output, d: Description)
+    ensures { Put (optional_fields_octets d) out.old out.new }
 {
-    let link = d.link;
-    let extension = d.extension;
-    let list = d.list;
-    let a = put_link(out, at, link);
-    let b = put_optional(out, a, extension);
-    put_optional(out, b, list)
+    put_link(out, d.link);
+    put_optional(out, d.extension);
+    put_optional(out, d.list);
 }
 
-fn put_system(out: &mut [u8], at: usize, x: System) -> usize
-    ensures { output_at out.new result ≡ puts (system_octets x) (output_at out.old at) }
+fn put_system(out: &mut Output, x: System)
+    ensures { Put (system_octets x) out.old out.new }
 {
-    let capabilities = x.capabilities;
-    let management = x.management;
-    let a = put_part(out, at, x.name);
-    let b = put_part(out, a, x.description);
-    let c = put_flags(out, b, capabilities);
-    put_parts(out, c, management)
+    put_part(out, x.name);
+    put_part(out, x.description);
+    put_flags(out, x.capabilities);
+    put_parts(out, x.management);
 }
 
-pub fn put_description(out: &mut [u8], at: usize, d: Description) -> usize
-    ensures { output_at out.new result ≡ puts (description_octets d) (output_at out.old at) }
+#[tactic(auto, unfolding(output::specs::Output::puts, crate::specs::Octets::description_octets))]
+pub fn put_description(out: &mut Output, d: Description)
+    ensures { Put (description_octets d) out.old out.new }
 {
-    let system = d.system;
-    let a = put_front(out, at, d);
-    let b = put_strings(out, a, d);
-    let c = put_optional_fields(out, b, d);
-    put_system(out, c, system)
+    put_front(out, d);
+    put_strings(out, d);
+    put_optional_fields(out, d);
+    put_system(out, d.system);
 }

@@ -7,7 +7,7 @@ use ids::IdPart;
 use octets::{octet, pair};
 use reading::{Description, Link};
 use system::{Capabilities, System};
-use text::{Optional, Part, Parts};
+use text::{Part, Parts};
 
 // Where the fields stand.
 const CHASSIS: usize = 0;
@@ -71,41 +71,41 @@ fn is_there(o: &[u8], at: usize) -> bool
     octet(o, at) == 1
 }
 
-fn optional_from(o: &[u8], at: usize) -> Optional
+fn optional_from(o: &[u8], at: usize) -> Option<Part>
     requires { at ≤ 100 }
     ensures { result ≡ optional_from o.now at }
 {
-    if is_there(o, at) {
-        return Optional::Present(part_from(o, at + 1));
+    if !is_there(o, at) {
+        return None;
     }
-    Optional::Absent
+    Some(part_from(o, at + 1))
 }
 
-fn link_from(o: &[u8], at: usize) -> Link
+fn link_from(o: &[u8], at: usize) -> Option<Link>
     requires { at ≤ 100 }
     ensures { result ≡ link_from o.now at }
 {
-    if is_there(o, at) {
-        return Link::Table {
-            interface: part_from(o, at + 1),
-            port: part_from(o, at + 5),
-            addresses: part_from(o, at + 9),
-        };
+    if !is_there(o, at) {
+        return None;
     }
-    Link::Absent
+    Some(Link {
+        interface: part_from(o, at + 1),
+        port: part_from(o, at + 5),
+        addresses: part_from(o, at + 9),
+    })
 }
 
-fn flags_from(o: &[u8], at: usize) -> Capabilities
+fn flags_from(o: &[u8], at: usize) -> Option<Capabilities>
     requires { at ≤ 100 }
     ensures { result ≡ flags_from o.now at }
 {
-    if is_there(o, at) {
-        return Capabilities::Flags {
-            able: number_from(o, at + 1),
-            enabled: number_from(o, at + 3),
-        };
+    if !is_there(o, at) {
+        return None;
     }
-    Capabilities::Absent
+    Some(Capabilities {
+        able: number_from(o, at + 1),
+        enabled: number_from(o, at + 3),
+    })
 }
 
 fn parts_from(o: &[u8], at: usize) -> Parts
@@ -135,6 +135,7 @@ fn system_from(o: &[u8]) -> System
 }
 
 // What a presence other than 1 stands before is absent; one above 1 is told by presences_fit.
+#[tactic(auto, unfolding(crate::specs::Octets::description_in))]
 pub fn description_in(o: &[u8]) -> Description
     ensures { result ≡ description_in o.now }
 {
@@ -155,17 +156,12 @@ pub fn description_in(o: &[u8]) -> Description
 }
 
 // Each presence is 0 or 1.
+#[tactic(auto, unfolding(crate::specs::Octets::presences_ok))]
 pub fn presences_fit(o: &[u8]) -> bool
     ensures { result ≡ presences_ok o.now }
 {
-    if octet(o, LINK) > 1 {
-        return false;
-    }
-    if octet(o, EXTENSION) > 1 {
-        return false;
-    }
-    if octet(o, LIST) > 1 {
-        return false;
-    }
-    octet(o, CAPABILITIES) < 2
+    octet(o, LINK) < 2
+        && octet(o, EXTENSION) < 2
+        && octet(o, LIST) < 2
+        && octet(o, CAPABILITIES) < 2
 }

@@ -9,7 +9,7 @@ ghost use Rattle.numbers.specs.Sizes.{places};
 ghost use Rattle.octet_table.specs.Lent.{numbers_long, senders_len, lent, lengths_right, one_per_place, numbers_in, senders_in, table_in, number_octets, sender_octets, Puts};
 
 use numbers::{PLACES, Sender, Table};
-use octets::{octet, pair, six};
+use octets::{pair, six};
 use whole::fill;
 
 // The octets of the seconds, and of the lengths; the octets of the senders (X2).
@@ -18,29 +18,11 @@ pub const NUMBERS: usize = 2 * PLACES;
 pub const SENDERS: usize = 6 * PLACES;
 
 // Each slice has its length, by their numbers of octets (X2).
+#[tactic(auto, unfolding(crate::specs::Lent::lengths_right))]
 pub fn lengths_fit(ports: usize, seconds: usize, lengths: usize, senders: usize) -> bool
     ensures { result ≡ lengths_right ports seconds lengths senders }
 {
-    if ports != PLACES {
-        return false;
-    }
-    if seconds != NUMBERS {
-        return false;
-    }
-    if lengths != NUMBERS {
-        return false;
-    }
-    senders == SENDERS
-}
-
-fn ports_in(o: &[u8]) -> [u8; PLACES]
-    ensures { result ≡ one_per_place o.now }
-{
-    let mut a = [0; PLACES];
-    for i in 0..PLACES {
-        a[i] = octet(o, i);
-    }
-    a
+    ports == PLACES && seconds == NUMBERS && lengths == NUMBERS && senders == SENDERS
 }
 
 // Low octet first: in this order the compiler reads two octets at once.
@@ -73,10 +55,9 @@ fn senders_in(o: &[u8]) -> [Sender; PLACES]
 {
     let mut a = [Sender { octets: [0; 6] }; PLACES];
     for i in 0..PLACES {
-        let sender = Sender {
+        a[i] = Sender {
             octets: six(o, 6 * i),
         };
-        a[i] = sender;
     }
     a
 }
@@ -94,7 +75,7 @@ pub fn table_in(ports: &[u8], seconds: &[u8], lengths: &[u8], senders: &[u8]) ->
     fill(&mut l[..], lengths);
     fill(&mut n[..], senders);
     Table {
-        port: ports_in(&p[..]),
+        port: p,
         seconds: numbers_in(&s[..]),
         length: numbers_in(&l[..]),
         sender: senders_in(&n[..]),
@@ -105,9 +86,7 @@ fn put_ports(ports: [u8; PLACES], out: &mut [u8])
     requires { length out.old ≡ places }
     ensures { (out.new ≡ one_per_place ports) × (one_per_place out.new ≡ ports) }
 {
-    for i in 0..PLACES {
-        out[i] = ports[i];
-    }
+    out.copy_from_slice(&ports);
 }
 
 // High octet first.
@@ -156,13 +135,9 @@ pub fn put_table(
     ensures { Puts t (lent ports.old seconds.old lengths.old senders.old) (lent ports.new seconds.new lengths.new senders.new) }
 {
     if lengths_fit(ports.len(), seconds.len(), lengths.len(), senders.len()) {
-        let port = t.port;
-        let left = t.seconds;
-        let length = t.length;
-        let sender = t.sender;
-        put_ports(port, ports);
-        put_numbers(left, seconds);
-        put_numbers(length, lengths);
-        put_senders(sender, senders);
+        put_ports(t.port, ports);
+        put_numbers(t.seconds, seconds);
+        put_numbers(t.length, lengths);
+        put_senders(t.sender, senders);
     }
 }

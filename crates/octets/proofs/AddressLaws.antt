@@ -3,13 +3,15 @@
 use Prim.Native.Nat.{ℕ, ◌+◌, ◌<◌, ◌≤◌}
 use mathlib.Core.Path.{◌≡◌, refl, ap, ap₂}
 use mathlib.Core.List.{List, [], ◌∷◌, ◌++◌}
-use mathlib.Core.Bool.{Bool, true, false}
+use mathlib.Core.Bool.{Bool, true, false, ◌&&◌}
 use native.Mathlib.Omega.{arith}
 use borrow.Author.Tests.{eq-eqb, eqb-true}
 use native.Mathlib.Numerals.{add-one}
 use lib.ListN.{length, take, drop, get_or, drop_of_length-le, get_or-eq_default, get_or-append}
 use lib.Seq.{drop-cons}
 use lib.Dec.{eqb}
+use Rattle.std.specs.Prelude.{nat_eq}
+use Rattle.std.specs.Cmp.Lexicographic.{pointwise}
 use Rattle.tally.specs.Tests.{both}
 use Rattle.tally.proofs.TestsLaws.{both_true}
 use Rattle.octets.specs.Address.{six_at, same_octets}
@@ -28,6 +30,18 @@ same-equal (x ∷ a) [] e = let z : ◌≡◌ {A = Bool} false true = e in cc
 same-equal (x ∷ a) (y ∷ b) e =
     let p = both_true (eqb x y) (same_octets a b) e in
     ap₂ (λ (u : ℕ) (l : List ℕ). u ∷ l) (eqb-true x y p.0) (same-equal a b p.1)
+
+-- the test that the code's == makes is this one
+pub pointwise-same : (a b : List ℕ) → pointwise nat_eq a b ≡ same_octets a b
+unfolding same_octets
+pointwise-same [] [] = refl
+pointwise-same [] (y ∷ b) = refl
+pointwise-same (x ∷ a) [] = refl
+pointwise-same (x ∷ a) (y ∷ b) = go (eqb x y) (pointwise-same a b)
+  where
+    go : (t : Bool) {p q : Bool} → p ≡ q → (t && p) ≡ both t q
+    go true e = e
+    go false e = refl
 
 pub same-lengths : (a b : List ℕ) → (length a ≡ length b → ⊥) → same_octets a b ≡ false
 same-lengths a b d = go (same_octets a b) refl

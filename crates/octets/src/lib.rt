@@ -18,7 +18,7 @@ pub fn kind_of(hi: u8) -> u8
 pub fn len_of(hi: u8, lo: u8) -> usize
     ensures { result ≡ length_in hi lo }
 {
-    ((hi & 1) as usize) << 8 | lo as usize
+    usize::from(hi & 1) << 8 | usize::from(lo)
 }
 
 // The first octet of a header, joined again from type and length (L1).
@@ -39,33 +39,26 @@ pub fn low_of(len: usize) -> u8
 pub fn octet(s: &[u8], i: usize) -> u8
     ensures { result ≡ get_or s.now i 0 }
 {
-    if i < s.len() { s[i] } else { 0 }
+    s.get(i).copied().unwrap_or(0)
 }
 
 // Two octets as one number, high octet first (L5).
 pub fn pair(hi: u8, lo: u8) -> u16
     ensures { result ≡ pair_of hi lo }
 {
-    (hi as u16) << 8 | lo as u16
+    u16::from_be_bytes([hi, lo])
 }
 
 // Up to four octets as one number, high octet first (A4).
 pub fn value_of(part: &[u8]) -> u32
     ensures { result ≡ value_of (take 4 part.now) }
 {
-    let mut value: u32 = 0;
-    let mut i = 0;
-    while i < 4 {
-        if part.len() <= i {
-            return value;
-        }
-        value = value * 256 + part[i] as u32;
-        i += 1;
-    }
-    value
+    part.iter()
+        .take(4)
+        .fold(0, |value, &b| value << 8 | u32::from(b))
 }
 
-// The address at a place: six octets, by value.
+// The address at a place: six octets, by value. Written out: over `array::from_fn` the proof did not close, since its closure may change from call to call.
 pub fn six(s: &[u8], at: usize) -> [u8; 6]
     ensures { result ≡ six_at s.now at }
 {
@@ -86,12 +79,7 @@ pub fn six(s: &[u8], at: usize) -> [u8; 6]
 pub fn same_six(a: [u8; 6], b: [u8; 6]) -> bool
     ensures { result ≡ same_octets a b }
 {
-    for i in 0..6 {
-        if a[i] != b[i] {
-            return false;
-        }
-    }
-    true
+    a == b
 }
 
 // Whether an address is a group address (F4).

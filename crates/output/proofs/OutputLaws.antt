@@ -3,16 +3,16 @@
 use Prim.Native.Nat.{ℕ, zero, suc, ◌+◌, ◌-◌, ◌<◌, ◌≤◌}
 use mathlib.Core.Path.{◌≡◌, refl, sym, ap, ◌∙◌}
 use mathlib.Core.List.{List, [], ◌∷◌, ◌++◌}
-use mathlib.Core.Bool.{Bool, true, false}
 use native.Mathlib.Decide.{dec_lt}
 use native.Mathlib.Numerals.{add-one}
 use native.Mathlib.Omega.{arith}
-use borrow.Author.Tests.{lt-ltb, le-ltb, leb-true, leb-false}
+use Rattle.std.specs.Prelude.{min}
+use borrow.Author.Tests.{lt-ltb, le-ltb}
+use borrow.Rule.Slice.PartMut.{put_mid, Post-is}
 use lib.ListN.{length, set, take, drop, get_or, length-set, drop_of_length-le, take-append-drop}
-use lib.Dec.{leb}
-use Rattle.tally.specs.Tests.{pick}
 use lib.Seq.{take-length, length-take-le, drop-cons, append_snoc, set_out, take-suc-set, drop-set-lt}
-use Rattle.output.specs.Output.{Output, output_at, more, puts}
+use Rattle.output.specs.Output.{Output, output_at, more, puts, seen, Put}
+use Rattle.output.specs.declared.Output.{Output as Lent}
 
 pub puts-append : (x y : List ℕ) (o : Output) → puts (x ++ y) o ≡ puts y (puts x o)
 unfolding puts
@@ -49,6 +49,17 @@ pub more-full : (l : List ℕ) (at b : ℕ) → length l ≤ at → output_at l 
 unfolding more
 more-full l at b h = sym (rw (le-ltb at (length l) h, set_out l at b h))
 
+-- The same of what the code puts into its output
+
+pub put_then : (x y : List ℕ) {o p q : Lent} → Put x o p → Put y p q → Put (x ++ y) o q
+put_then x y {o} e d = record { lent = d.lent ∙ e.lent; put = puts_then x y (seen o) e.put d.put }
+
+pub put_same : {x y : List ℕ} {o p : Lent} → Put x o p → x ≡ y → Put y o p
+put_same {o = o} e d = record { lent = e.lent; put = puts-same (seen o) e.put d }
+
+pub put_none : (o : Lent) → Put [] o o
+put_none o = record { lent = refl; put = puts_none (seen o) }
+
 -- A loop: each octet of s is put as f prints it
 
 module _ (f : List ℕ → List ℕ) (g : ℕ → List ℕ) (step : (b : ℕ) (x : List ℕ) → f (b ∷ x) ≡ g b ++ f x) (end : f [] ≡ []) (s : List ℕ) (whole : Output) where
@@ -62,28 +73,21 @@ module _ (f : List ℕ → List ℕ) (g : ℕ → List ℕ) (step : (b : ℕ) (x
   unfolding puts
   puts-done i o h inv = ap (λ (x : List ℕ). puts x o) (sym (ap f (drop_of_length-le s h) ∙ end)) ∙ inv
 
--- each octet as it is
-as-it-is : (b : ℕ) (x : List ℕ) → (b ∷ x) ≡ (b ∷ []) ++ x
-as-it-is b x = refl
+-- The same of the code's output: before turn i, what is left, put behind what was put, makes the whole
 
--- A loop that stores each octet of s where it belongs, at + i being a place of the output
+pub record Putting (f : List ℕ → List ℕ) (s : List ℕ) (i : ℕ) (o p : Lent) : Type 0 where
+  pub lent : p.octets.ghost_name ≡ o.octets.ghost_name
+  pub left : puts (f (drop i s)) (seen p) ≡ puts (f s) (seen o)
 
-module _ (s : List ℕ) (whole : Output) (l : List ℕ) (at i : ℕ) where
-  pub puts-stored : i < length s → at + i < length l → puts (drop i s) (output_at l (at + i)) ≡ whole → puts (drop (i + 1) s) (output_at (set l (at + i) (get_or s i 0)) (at + (i + 1))) ≡ whole
-  puts-stored h k inv =
-      let n : at + i + 1 ≡ at + (i + 1) = omega arith in
-      let b = get_or s i 0 in
-      let e : output_at (set l (at + i) b) (at + (i + 1)) ≡ puts (b ∷ []) (output_at l (at + i)) =
-      sym (ap (λ (m : ℕ). output_at (set l (at + i) b) m) n) ∙ puts_one b (output_at l (at + i)) (more_room l (at + i) b k) in
-      puts-next (λ x. x) (λ b. b ∷ []) as-it-is refl s whole i (output_at l (at + i)) h inv e
+pub put_starts : (f : List ℕ → List ℕ) (s : List ℕ) (o : Lent) → Putting f s 0 o o
+put_starts f s o = record { lent = refl; left = refl }
 
-  pub puts-ends : length s ≤ i → i ≤ length s → puts (drop i s) (output_at l (at + i)) ≡ whole → output_at l (at + length s) ≡ whole
-  puts-ends h k inv =
-      let n : length s ≡ i = omega arith in
-      ap (λ (m : ℕ). output_at l (at + m)) n ∙ puts-done (λ x. x) (λ b. b ∷ []) as-it-is refl s whole i (output_at l (at + i)) h inv
+module _ (f : List ℕ → List ℕ) (g : ℕ → List ℕ) (step : (b : ℕ) (x : List ℕ) → f (b ∷ x) ≡ g b ++ f x) (end : f [] ≡ []) (s : List ℕ) {i : ℕ} {o p : Lent} (going : Putting f s i o p) where
+  pub put-next : {q : Lent} → i < length s → Put (g (get_or s i 0)) p q → Putting f s (i + 1) o q
+  put-next h e = record { lent = e.lent ∙ going.lent; left = puts-next f g step end s (puts (f s) (seen o)) i (seen p) h going.left e.put }
 
-pub puts-begins : (s l : List ℕ) (at : ℕ) → puts (drop 0 s) (output_at l (at + 0)) ≡ puts s (output_at l at)
-puts-begins s l at = let e : at + 0 ≡ at = omega arith in ap (λ (m : ℕ). puts s (output_at l m)) e
+  pub put-done : length s ≤ i → Put (f s) o p
+  put-done h = record { lent = going.lent; put = puts-done f g step end s (puts (f s) (seen o)) i (seen p) h going.left }
 
 -- What does not fit
 
@@ -102,32 +106,6 @@ puts-room (b ∷ x) l at zero e = puts-past (b ∷ x) l at (omega arith)
 puts-room (b ∷ x) l at (suc m) e =
     let r = sym (more_room l at b (omega arith)) in
     ap (puts (take m x)) r ∙ puts-room x (set l at b) (at + 1) m (omega (arith, length-set l at b)) ∙ sym (ap (puts x) r)
-
--- The first n of x, as the code counts them and takes them
-
-module _ (k room : ℕ) {n : ℕ} (e : n ≡ pick (leb k room) k room) where
-  pub fitting-fits : (n ≤ k) × (n ≤ room)
-  fitting-fits = go (leb k room) refl
-    where
-      go : (t : Bool) → leb k room ≡ t → (n ≤ k) × (n ≤ room)
-      go true q = let d : n ≡ k = e ∙ rw q refl in (omega arith, omega (arith, leb-true k room q))
-      go false q = let d : n ≡ room = e ∙ rw q refl in (omega (arith, leb-false k room q), omega arith)
-
-module _ (x l : List ℕ) (at : ℕ) (h : at ≤ length l) {n : ℕ} (e : n ≡ pick (leb (length x) (length l - at)) (length x) (length l - at)) where
-  from_start : n - 0 ≡ n
-  from_start = omega arith
-
-  pub puts-fitting : puts (take (n - 0) x) (output_at l at) ≡ puts x (output_at l at)
-  puts-fitting = ap (λ (m : ℕ). puts (take m x) (output_at l at)) from_start ∙ go (leb (length x) (length l - at)) e
-    where
-      go : (t : Bool) → n ≡ pick t (length x) (length l - at) → puts (take n x) (output_at l at) ≡ puts x (output_at l at)
-      go true q = ap (λ (m : ℕ). puts (take m x) (output_at l at)) q ∙ ap (λ (y : List ℕ). puts y (output_at l at)) (take-length x)
-      go false q = puts-room x l at n (omega arith)
-
-  pub fitting-inside : at + length (take (n - 0) x) ≤ length l
-  fitting-inside =
-      let f = fitting-fits (length x) (length l - at) e in
-      omega (arith, f.0, f.1, from_start, length-take-le (n - 0) x (omega (arith, f.0)))
 
 -- A whole that fits
 
@@ -148,6 +126,25 @@ puts-fits (b ∷ x) l at h =
     shifted n =
         rw (n, add-one at, take-suc-set l at b (omega arith), drop-set-lt (at + suc (length x)) l at b (omega arith))
         (ap (λ (k : List ℕ). output_at k (at + suc (length x))) (append_snoc (take at l) b (x ++ drop (at + suc (length x)) l)))
+
+-- The octets of x that have room, copied as a whole
+
+module _ (x l : List ℕ) (at n : ℕ) (h : at ≤ length l) (e : n ≡ min (length x) (length l - at)) where
+  fewer : puts (take n x) (output_at l at) ≡ puts x (output_at l at)
+  fewer = elim (dec_lt (length l - at) (length x)) [
+    | yes r ↦ puts-room x l at n (omega (arith, r))
+    | no f ↦ ap (λ (m : ℕ). puts (take m x) (output_at l at)) (omega (arith, f)) ∙ ap (λ (y : List ℕ). puts y (output_at l at)) (take-length x)
+  ]
+
+  pub puts-copied : (copied : List ℕ) → copied ≡ take n x → output_at (put_mid at (at + n - at) l copied) (at + n) ≡ puts x (output_at l at)
+  puts-copied copied c =
+      let k : length (take n x) ≡ n = length-take-le n x (omega arith) in
+      let p : put_mid at (at + n - at) l copied ≡ take at l ++ (take n x ++ drop (at + n) l) =
+      ap (λ (y : List ℕ). take at l ++ (copied ++ y)) (Post-is at (at + n) l (omega arith)) ∙ ap (λ (y : List ℕ). take at l ++ (y ++ drop (at + n) l)) c in
+      ap (λ (y : List ℕ). output_at y (at + n)) p
+      ∙ ap (λ (m : ℕ). output_at (take at l ++ (take n x ++ drop (at + m) l)) (at + m)) (sym k)
+      ∙ sym (puts-fits (take n x) l at (omega (arith, k)))
+      ∙ fewer
 
 -- A whole that fills the output, or has no room in it, ends where the output ends
 

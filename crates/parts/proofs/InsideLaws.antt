@@ -14,7 +14,7 @@ use Rattle.tally.proofs.RangesLaws.{all_listed}
 use Rattle.text.specs.Part.{nowhere, most_parts, parts_in}
 use Rattle.text.specs.declared.Part.{Part}
 use Rattle.text.specs.declared.Parts.{Parts}
-use Rattle.text.specs.declared.Optional.TheVariants.{Absent}
+use Rattle.std.specs.Prelude.{None}
 use Rattle.system.specs.System.{empty_system}
 use Rattle.reading.specs.declared.Description.{Description}
 use Rattle.parts.specs.Inside.{part_inside, system_inside, link_inside, optional_inside, all_inside}
@@ -44,12 +44,12 @@ inside_before n d more =
     ∷ more
 
 -- where extension link information is absent, they are asked with that of the system fields
-pub inside-without-extension : (n : ℕ) (d : Description) → d.extension ≡ Absent → all_inside n d ≡ all (inside_before n d (all (system_inside n d.system) ∷ []))
+pub inside-without-extension : (n : ℕ) (d : Description) → d.extension ≡ None → all_inside n d ≡ all (inside_before n d (all (system_inside n d.system) ∷ []))
 unfolding all_inside
 inside-without-extension n d x = rw (ap (optional_inside n) x)
 
 -- and alone where the parts of the system fields lie inside
-pub inside-without-both : (n : ℕ) (d : Description) → all (system_inside n d.system) ≡ true → d.extension ≡ Absent → all_inside n d ≡ all (inside_before n d [])
+pub inside-without-both : (n : ℕ) (d : Description) → all (system_inside n d.system) ≡ true → d.extension ≡ None → all_inside n d ≡ all (inside_before n d [])
 inside-without-both n d e x = inside-without-extension n d x ∙ rw e
 
 -- and those of no system fields do

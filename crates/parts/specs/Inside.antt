@@ -1,15 +1,12 @@
 -- When every part of a description lies inside the text that is lent with it, in a text of n octets (W7).
 -- An empty part must lie inside too; a part that begins at the end of the text does.
-use Rattle.std.specs.Prelude.{ℕ, ◌-◌, List, [], ◌∷◌, map, Bool, true, leb}
+use Rattle.std.specs.Prelude.{ℕ, ◌-◌, List, [], ◌∷◌, map, Bool, true, leb, Option, Some, None}
 use Rattle.tally.specs.Tests.{both, all}
 use Rattle.text.specs.Part.{most_parts, parts_in}
 use Rattle.text.specs.declared.Part.{Part}
 use Rattle.text.specs.declared.Parts.{Parts}
 use Rattle.system.specs.declared.System.{System}
 use Rattle.reading.specs.declared.Link.{Link}
-use Rattle.reading.specs.declared.Link.TheVariants as link-is
-use Rattle.text.specs.declared.Optional.{Optional}
-use Rattle.text.specs.declared.Optional.TheVariants as optional-is
 use Rattle.reading.specs.declared.Description.{Description}
 
 abbrev pub part_inside : ℕ → Part → Bool
@@ -22,13 +19,13 @@ parts_inside n l = both (leb l.count most_parts) (all (map (part_inside n) (part
 abbrev pub system_inside : ℕ → System → List Bool
 system_inside n x = part_inside n x.name ∷ part_inside n x.description ∷ parts_inside n x.management ∷ []
 
-abbrev pub link_inside : ℕ → Link → Bool
-link_inside n link-is.Absent = true
-link_inside n (link-is.Table i p a) = all (part_inside n i ∷ part_inside n p ∷ part_inside n a ∷ [])
+abbrev pub link_inside : ℕ → Option Link → Bool
+link_inside n None = true
+link_inside n (Some l) = all (part_inside n l.interface ∷ part_inside n l.port ∷ part_inside n l.addresses ∷ [])
 
-abbrev pub optional_inside : ℕ → Optional → Bool
-optional_inside n optional-is.Absent = true
-optional_inside n (optional-is.Present a) = part_inside n a
+abbrev pub optional_inside : ℕ → Option Part → Bool
+optional_inside n None = true
+optional_inside n (Some p) = part_inside n p
 
 abbrev pub part_rules : ℕ → Description → List Bool
 part_rules n d =

@@ -6,110 +6,62 @@ ghost use Rattle.std.specs.Prelude.{◌≡◌};
 ghost use Rattle.tally.specs.Tests.{all};
 ghost use Rattle.parts.specs.Inside.{part_inside, parts_inside, system_inside, link_inside, optional_inside, all_inside};
 
-use reading::{Description, Link, link_parts};
+use reading::{Description, Link};
 use system::System;
-use text::{MOST_PARTS, Optional, Part, Parts, nth_part};
+use text::{MOST_PARTS, Part, Parts};
 
 // In a text of n octets.
 fn part_inside(n: usize, p: Part) -> bool
     ensures { result ≡ part_inside n p }
 {
-    if p.start > n {
-        return false;
-    }
-    p.len <= n - p.start
+    p.start <= n && p.len <= n - p.start
 }
 
 // Each part below the count; a count above the most says of parts that there are not (W7).
 fn parts_inside(n: usize, l: Parts) -> bool
     ensures { result ≡ parts_inside n l }
 {
-    let count = l.count;
-    if count > MOST_PARTS {
+    if l.count > MOST_PARTS {
         return false;
     }
-    for i in 0..count {
-        if part_inside(n, nth_part(l, i)) {} else {
-            return false;
-        }
-    }
-    true
+    l.parts[..l.count].iter().all(|p| part_inside(n, *p))
 }
 
 fn system_inside(n: usize, x: System) -> bool
     ensures { result ≡ all (system_inside n x) }
 {
-    if !part_inside(n, x.name) {
-        return false;
-    }
-    if !part_inside(n, x.description) {
-        return false;
-    }
-    let management = x.management;
-    parts_inside(n, management)
+    part_inside(n, x.name) && part_inside(n, x.description) && parts_inside(n, x.management)
 }
 
-// The empty parts of an absent one lie inside every text.
-fn link_inside(n: usize, l: Link) -> bool
+// Absent link information has no part that could lie outside.
+fn link_inside(n: usize, l: Option<Link>) -> bool
     ensures { result ≡ link_inside n l }
 {
-    let t = link_parts(l);
-    if !part_inside(n, t.interface) {
-        return false;
-    }
-    if !part_inside(n, t.port) {
-        return false;
-    }
-    part_inside(n, t.addresses)
+    let Some(t) = l else {
+        return true;
+    };
+    part_inside(n, t.interface) && part_inside(n, t.port) && part_inside(n, t.addresses)
 }
 
-fn optional_inside(n: usize, o: Optional) -> bool
+fn optional_inside(n: usize, o: Option<Part>) -> bool
     ensures { result ≡ optional_inside n o }
 {
-    match o {
-        Optional::Absent => true,
-        Optional::Present(a) => part_inside(n, a),
-    }
+    o.is_none_or(|p| part_inside(n, p))
 }
 
+#[tactic(auto, unfolding(crate::specs::Inside::all_inside))]
 pub fn all_inside(n: usize, d: Description) -> bool
     ensures { result ≡ all_inside n d }
 {
-    let chassis = d.chassis;
-    let port = d.port;
-    if !part_inside(n, chassis.octets) {
-        return false;
-    }
-    if !part_inside(n, port.octets) {
-        return false;
-    }
-    if !part_inside(n, d.words) {
-        return false;
-    }
-    if !part_inside(n, d.category) {
-        return false;
-    }
-    if !part_inside(n, d.manufacturer) {
-        return false;
-    }
-    if !part_inside(n, d.model) {
-        return false;
-    }
-    if !part_inside(n, d.number) {
-        return false;
-    }
-    let link = d.link;
-    let extension = d.extension;
-    let list = d.list;
-    if !link_inside(n, link) {
-        return false;
-    }
-    if !optional_inside(n, extension) {
-        return false;
-    }
-    if !optional_inside(n, list) {
-        return false;
-    }
-    let system = d.system;
-    system_inside(n, system)
+    part_inside(n, d.chassis.octets)
+        && part_inside(n, d.port.octets)
+        && part_inside(n, d.words)
+        && part_inside(n, d.category)
+        && part_inside(n, d.manufacturer)
+        && part_inside(n, d.model)
+        && part_inside(n, d.number)
+        && link_inside(n, d.link)
+        && optional_inside(n, d.extension)
+        && optional_inside(n, d.list)
+        && system_inside(n, d.system)
 }

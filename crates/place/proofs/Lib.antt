@@ -4,4 +4,5 @@ pub mod WhoseLaws
 pub mod PlaceLaws
 pub mod PutLaws
 pub mod ThereLaws
+pub mod FoundLaws
 pub mod Sole

@@ -3,10 +3,12 @@
 use Prim.Native.Nat.{ℕ, ◌*◌, ◌≤◌, ◌<◌}
 use mathlib.Core.Path.{◌≡◌, sym, ap}
 use mathlib.Core.Logic.{◌≢◌}
-use mathlib.Core.Bool.{Bool}
-use mathlib.Core.List.{List, []}
+use mathlib.Core.Bool.{Bool, true, false}
+use mathlib.Core.List.{List, [], ◌∷◌}
 use borrow.Author.Tests.{eq-eqb, ne_eqb, le-leb, lt-leb, lt-ltb, le-ltb}
-use lib.ListN.{length, take, drop}
+use lib.Dec.{leb, ltb, eqb}
+use lib.ListN.{length, get_or, take, drop}
+use Rattle.tally.proofs.TestsLaws.{all-fails}
 use Rattle.rules.specs.Identity.{Ident, same}
 use Rattle.numbers.specs.Sizes.{places}
 use Rattle.place.specs.State.{Place, State, size, octets, at, put, put_there, lldpdu_at, lldpdu_in, record_passes, record_is, is_of, passes}
@@ -37,20 +39,28 @@ module _ (s : State) (k : ℕ) (h : k < places) where
 -- Writing
 
 module _ (s : State) (k : ℕ) (p : Place) where
-  pub past-stays : places ≤ k → s ≡ put_there s k p
+  tests : List Bool
+  tests = ltb k places ∷ eqb (length s.buf) octets ∷ leb p.len size ∷ []
+
+  -- one test that fails decides, wherever it stands
+  stays : (i : ℕ) → get_or tests i true ≡ false → put_there s k p ≡ s
+  unfolding put_there tests
+  stays i h = rw (all-fails tests i h)
+
+  pub past-stays : places ≤ k → put_there s k p ≡ s
+  unfolding tests
+  past-stays h = stays 0 (le-ltb k places h)
+
+  pub unsized-stays : length s.buf ≢ octets → put_there s k p ≡ s
+  unfolding tests
+  unsized-stays e = stays 1 (ne_eqb (length s.buf) octets e)
+
+  pub full-stays : size < p.len → put_there s k p ≡ s
+  unfolding tests
+  full-stays l = stays 2 (lt-leb p.len size l)
+
+  pub there-put : k < places → length s.buf ≡ octets → p.len ≤ size → put_there s k p ≡ put s k p
   unfolding put_there
-  past-stays h = sym (rw (le-ltb k places h))
+  there-put h e l = rw (lt-ltb k places h, eq-eqb (length s.buf) octets e, le-leb p.len size l)
 
-  module _ (h : k < places) where
-    pub unsized-stays : length s.buf ≢ octets → s ≡ put_there s k p
-    unfolding put_there
-    unsized-stays e = sym (rw (lt-ltb k places h, ne_eqb (length s.buf) octets e))
-
-    module _ (e : length s.buf ≡ octets) where
-      pub full-stays : size < p.len → s ≡ put_there s k p
-      unfolding put_there
-      full-stays l = sym (rw (lt-ltb k places h, eq-eqb (length s.buf) octets e, lt-leb p.len size l))
-
-      pub there-put : p.len ≤ size → put_there s k p ≡ put s k p
-      unfolding put_there
-      there-put l = rw (lt-ltb k places h, eq-eqb (length s.buf) octets e, le-leb p.len size l)
+pub ruleset refusing = (past-stays, unsized-stays, full-stays)

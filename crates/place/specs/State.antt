@@ -1,11 +1,11 @@
 -- The table's state: the struct of numbers and senders beside the octets of the buffer; seen place by place (N1).
 -- Every call is said by what it puts where; what is not named stays as it was.
-use Rattle.std.specs.Prelude.{ℕ, zero, suc, ◌+◌, ◌*◌, ◌≡◌, Bool, not, List, [], ◌∷◌, ◌++◌, length, get_or, set, take, drop, replicate, leb, ltb, eqb}
+use Rattle.std.specs.Prelude.{ℕ, zero, suc, ◌+◌, ◌*◌, ◌≡◌, Bool, not, List, [], ◌∷◌, ◌++◌, length, get_or, set, take, drop, replicate, leb, ltb, eqb, Option, Some, None}
 use Rattle.tally.specs.Tests.{pick, both, all}
 use Rattle.tally.specs.Counts.{count, first_from}
 use Rattle.whole.specs.Whole.{filled}
 use Rattle.lldpdu.specs.Extent.{port_place, id_in}
-use Rattle.lldpdu.specs.Outline.{outline_of}
+use Rattle.lldpdu.specs.Outline.{outline_of, seconds_told}
 use Rattle.ids.specs.Id.{Id}
 use Rattle.rules.specs.Identity.{Ident, same}
 use Rattle.rules.specs.Events.{Announcement}
@@ -119,7 +119,7 @@ who_at x = whose_in x.port (lldpdu_at x)
 
 -- what an LLDPDU l says that came from a sender
 abbrev pub said : List ℕ → List ℕ → Announcement
-said sender l = record { chassis = chassis_in l; port_id = port_id_in l; seconds = (outline_of l).seconds; octets = l; sender = sender }
+said sender l = record { chassis = chassis_in l; port_id = port_id_in l; seconds = seconds_told (outline_of l); octets = l; sender = sender }
 
 -- an LLDPDU has this chassis and port ID, whatever the port
 unfoldable pub is_from : List ℕ → Id → Id → Bool
@@ -139,6 +139,10 @@ is_of s w k = record_is (at s k).len (at s k).port (lldpdu_at (at s k)) w
 -- the place of w, or the number of places where it is new
 unfoldable pub find : State → Ident → ℕ
 find s w = first_from (is_of s w) 0 places
+
+-- the place that was found, where there is one
+abbrev pub place_found : ℕ → Option ℕ
+place_found k = pick (ltb k places) (Some k) None
 
 -- place k has a record whose identity passes g
 abbrev pub passes : State → (Ident → Bool) → ℕ → Bool

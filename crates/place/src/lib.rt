@@ -4,7 +4,7 @@
 
 ghost use Rattle.std.specs.Prelude.{◌≡◌};
 ghost use Rattle.ids.specs.Id.{id_meant};
-ghost use Rattle.place.specs.State.{put_there, free, state, lldpdu_in, keep, record_is, is_from, ident, find};
+ghost use Rattle.place.specs.State.{put_there, free, state, lldpdu_in, keep, record_is, is_from, ident, find, place_found};
 
 use ids::{IdPart, same_id};
 use lldpdu::{chassis_of, port_of};
@@ -22,7 +22,7 @@ pub fn lldpdu_at(buffer: &[u8], i: usize, length: u16) -> &[u8]
     ensures { result.now ≡ lldpdu_in buffer.now i length }
 {
     if i >= PLACES {
-        return text_of(buffer, Part { start: 0, len: 0 });
+        return &[];
     }
     text_of(
         text_of(
@@ -40,30 +40,25 @@ pub fn lldpdu_at(buffer: &[u8], i: usize, length: u16) -> &[u8]
 }
 
 // Place i becomes free (N4), where there is such a place and the buffer has its length.
-pub fn release(t: Table, buffer: &mut [u8], i: usize) -> Table
+#[tactic(auto, using(crate::proofs::ThereLaws::refusing))]
+pub fn release(mut t: Table, buffer: &mut [u8], i: usize) -> Table
     ensures { state result buffer.new ≡ put_there (state t buffer.old) i free }
 {
-    if i >= PLACES {
+    if i >= PLACES || buffer.len() != OCTETS {
         return t;
     }
-    if buffer.len() != OCTETS {
-        return t;
-    }
-    let mut u = t;
-    u.port[i] = 0;
-    u.seconds[i] = 0;
-    u.length[i] = 0;
-    let zeros = Sender { octets: [0; 6] };
-    u.sender[i] = zeros;
-    let from = i * SIZE;
-    let to = from + SIZE;
-    clear(&mut buffer[from..to]);
-    u
+    t.port[i] = 0;
+    t.seconds[i] = 0;
+    t.length[i] = 0;
+    t.sender[i] = Sender { octets: [0; 6] };
+    clear(&mut buffer[i * SIZE..i * SIZE + SIZE]);
+    t
 }
 
 // Place i keeps an LLDPDU that was heard on a port, with seconds left and its sender (N3, N7), where the place has room for it too.
+#[tactic(auto, using(crate::proofs::ThereLaws::refusing), unfolding(crate::specs::State::keep))]
 pub fn store(
-    t: Table,
+    mut t: Table,
     buffer: &mut [u8],
     i: usize,
     p: u8,
@@ -73,38 +68,27 @@ pub fn store(
 ) -> Table
     ensures { state result buffer.new ≡ put_there (state t buffer.old) i (keep p left sender l.now) }
 {
-    if i >= PLACES {
+    if i >= PLACES || buffer.len() != OCTETS || l.len() > SIZE {
         return t;
     }
-    if buffer.len() != OCTETS {
-        return t;
-    }
-    if l.len() > SIZE {
-        return t;
-    }
-    let mut u = t;
-    u.port[i] = p;
-    u.seconds[i] = left;
-    u.length[i] = l.len() as u16;
-    let sent_by = Sender { octets: sender };
-    u.sender[i] = sent_by;
-    let from = i * SIZE;
-    let to = from + SIZE;
-    fill(&mut buffer[from..to], l);
-    u
+    t.port[i] = p;
+    t.seconds[i] = left;
+    t.length[i] = l.len() as u16;
+    t.sender[i] = Sender { octets: sender };
+    fill(&mut buffer[i * SIZE..i * SIZE + SIZE], l);
+    t
 }
 
 // Whether an LLDPDU has the chassis and the port ID that are given as parts of a text (N2).
+#[tactic(auto, using(crate::proofs::WhoseLaws::from_by))]
 fn is_from(l: &[u8], text: &[u8], chassis: IdPart, port: IdPart) -> bool
     ensures { result ≡ is_from l.now (id_meant text.now chassis) (id_meant text.now port) }
 {
-    if same_id(l, chassis_of(l), text, chassis) {
-        return same_id(l, port_of(l), text, port);
-    }
-    false
+    same_id(l, chassis_of(l), text, chassis) && same_id(l, port_of(l), text, port)
 }
 
 // Whether place i, by its own length and port, has a record with the identity of port p and of two parts of a text (N2).
+#[tactic(auto, using(crate::proofs::WhoseLaws::of_by))]
 pub fn is_of(
     buffer: &[u8],
     i: usize,
@@ -117,23 +101,19 @@ pub fn is_of(
 ) -> bool
     ensures { result ≡ record_is length origin (lldpdu_in buffer.now i length) (ident p (id_meant text.now chassis) (id_meant text.now port)) }
 {
-    if length == 0 {
-        return false;
-    }
-    if origin != p {
-        return false;
-    }
-    is_from(lldpdu_at(buffer, i, length), text, chassis, port)
+    length != 0 && origin == p && is_from(lldpdu_at(buffer, i, length), text, chassis, port)
 }
 
-// The place of a record with this identity, or PLACES where it is new (N2).
-pub fn place_of(t: Table, buffer: &[u8], p: u8, text: &[u8], chassis: IdPart, port: IdPart) -> usize
-    ensures { result ≡ find (state t buffer.now) (ident p (id_meant text.now chassis) (id_meant text.now port)) }
+// The place of a record with this identity; None where it is new (N2).
+pub fn place_of(
+    t: Table,
+    buffer: &[u8],
+    p: u8,
+    text: &[u8],
+    chassis: IdPart,
+    port: IdPart,
+) -> Option<usize>
+    ensures { result ≡ place_found (find (state t buffer.now) (ident p (id_meant text.now chassis) (id_meant text.now port))) }
 {
-    for i in 0..PLACES {
-        if is_of(buffer, i, t.length[i], t.port[i], p, text, chassis, port) {
-            return i;
-        }
-    }
-    PLACES
+    (0..PLACES).find(|&i| is_of(buffer, i, t.length[i], t.port[i], p, text, chassis, port))
 }

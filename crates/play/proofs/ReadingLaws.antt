@@ -7,11 +7,10 @@ use lib.ListN.{length}
 use Rattle.numbers.specs.declared.Table.{Table}
 use Rattle.place.specs.State.{State, state}
 use Rattle.records.specs.declared.Fed.{Fed}
-use Rattle.replay.specs.Calls.{ended, replayed}
+use Rattle.replay.specs.Calls.{Replayed, ended, replayed}
 use Rattle.replay.specs.Place.{room_octets}
 use Rattle.replay.specs.Feeding.{Moment, moment}
 use Rattle.replay.specs.Promises.{Stands, ending}
-use Rattle.replay.specs.declared.Replayed.{Replayed}
 use Rattle.replay.proofs.EndLaws.{stands-none, stands-sound, stands-end}
 use Rattle.play.specs.declared.Seen.{Seen}
 use Rattle.play.specs.Reading.{standing, Begins, GoesOn, ReadsOn, Ended, end_of}

@@ -13,7 +13,8 @@ mod progress;
 pub use looks::between;
 use numbers::Table;
 use progress::{Progress, end, nothing_read, read_more};
-use replay::{Fed, ROOM, Replayed, begin, feed, finish, wants_more};
+use refusal::Refusal;
+use replay::{Fed, ROOM, begin, feed, finish, wants_more};
 use std::io::Read;
 
 // As many octets as one read asks for.
@@ -46,7 +47,7 @@ struct Step {
 // What a replay answered at the end of the file, and the table that it left.
 #[derive(Clone, Copy)]
 pub struct Seen {
-    pub answer: Replayed,
+    pub answer: Result<usize, Refusal>,
     pub table: Table,
 }
 
@@ -60,39 +61,25 @@ pub struct Played {
 fn begun(l: Look, buffer: &[u8], port: usize) -> Fed
     ensures { Begins (state l.table buffer.now) port l.limit result }
 {
-    let table = l.table;
     Fed {
-        replay: begin(table, buffer, port, l.limit),
-        table: table,
+        replay: begin(l.table, buffer, port, l.limit),
+        table: l.table,
     }
 }
 
 fn go_on(f: Fed, buffer: &mut [u8], room: &mut [u8], piece: &[u8]) -> Fed
     ensures { GoesOn (standing f room.old buffer.old) piece.now (standing result room.new buffer.new) }
 {
-    let place = f.replay;
-    let table = f.table;
-    feed(place, table, buffer, room, piece)
-}
-
-fn is_wanting(f: Fed) -> bool {
-    let place = f.replay;
-    wants_more(place)
+    feed(f.replay, f.table, buffer, room, piece)
 }
 
 fn ended(f: Fed) -> Seen
     ensures { Ended f result }
 {
-    let place = f.replay;
-    let table = f.table;
     Seen {
-        answer: finish(place),
-        table: table,
+        answer: finish(f.replay),
+        table: f.table,
     }
-}
-
-fn on_if(more: bool) -> Course {
-    if more { Course::On } else { Course::Over }
 }
 
 // The octets of a read. They are a call's result so that no proof has to count them.
@@ -112,56 +99,34 @@ fn read_some(
 ) -> Step
     ensures { ReadsOn (standing s.first room.old before.old) (standing s.second space.old after.old) (standing result.first room.new before.new) (standing result.second space.new after.new) }
 {
-    let first = s.first;
-    let second = s.second;
-    let progress = s.progress;
     let mut piece = piece_room();
     let n = match file.read(&mut piece) {
         Ok(n) => n,
         Err(_) => {
             return Step {
-                first: first,
-                second: second,
-                progress: progress,
                 course: Course::Failed,
+                ..s
             };
         }
     };
     if n == 0 {
         return Step {
-            first: first,
-            second: second,
-            progress: progress,
             course: Course::Over,
+            ..s
         };
     }
-    let one = go_on(first, before, room, &piece[..n]);
-    let other = go_on(second, after, space, &piece[..n]);
+    let first = go_on(s.first, before, room, &piece[..n]);
+    let second = go_on(s.second, after, space, &piece[..n]);
+    let course = if wants_more(first.replay) || wants_more(second.replay) {
+        Course::On
+    } else {
+        Course::Over
+    };
     Step {
-        first: one,
-        second: other,
-        progress: read_more(rt, progress, n),
-        course: on_if(is_wanting(one) | is_wanting(other)),
-    }
-}
-
-// A proved loop has to end, and nothing says that a file does. So the turns are counted down from a number that no file uses up.
-fn turns_left(c: Course, turns: u64) -> u64
-    requires { 0 < turns }
-    ensures { result < turns }
-{
-    match c {
-        Course::On => turns - 1,
-        Course::Over => 0,
-        Course::Failed => 0,
-    }
-}
-
-fn is_over(c: Course) -> bool {
-    match c {
-        Course::On => false,
-        Course::Over => true,
-        Course::Failed => false,
+        first,
+        second,
+        progress: read_more(rt, s.progress, n),
+        course,
     }
 }
 
@@ -188,21 +153,18 @@ fn play_in(
         progress: p,
         course: Course::On,
     };
+    // A proved loop has to end, and nothing says that a file does: so the reads are counted down from a number that no file uses up.
     let mut turns = u64::MAX;
-    while turns > 0 {
+    while turns > 0 && matches!(s.course, Course::On) {
         s = read_some(rt, file, s, before, room, after, space);
-        let course = s.course;
-        turns = turns_left(course, turns);
+        turns -= 1;
     }
-    let one = s.first;
-    let other = s.second;
-    let course = s.course;
-    let progress = s.progress;
-    end(rt, progress);
+    end(rt, s.progress);
+    let is_read = matches!(s.course, Course::Over);
     Played {
-        first: ended(one),
-        second: ended(other),
-        is_read: is_over(course),
+        first: ended(s.first),
+        second: ended(s.second),
+        is_read,
     }
 }
 

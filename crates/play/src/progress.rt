@@ -11,10 +11,7 @@ pub(crate) struct Progress {
 }
 
 pub(crate) fn nothing_read(wanted: bool) -> Progress {
-    Progress {
-        wanted: wanted,
-        octets: 0,
-    }
+    Progress { wanted, octets: 0 }
 }
 
 // The line goes over the one before it. Progress is not the answer: where standard error does not take it, the reading goes on.
@@ -23,36 +20,23 @@ fn say(rt: &impl Eprint, octets: usize) {
 }
 
 fn say_passed(rt: &impl Eprint, before: usize, octets: usize) {
-    if octets / MIB < FIRST {
-        return;
-    }
-    if before / MIB < octets / MIB {
+    if octets / MIB >= FIRST && before / MIB < octets / MIB {
         say(rt, octets);
     }
 }
 
 // So many octets more have been read. The sum stops at the greatest number.
 pub(crate) fn read_more(rt: &impl Eprint, p: Progress, n: usize) -> Progress {
-    let before = p.octets;
-    let octets = if n < usize::MAX - before {
-        before + n
-    } else {
-        usize::MAX
-    };
+    let octets = p.octets.saturating_add(n);
     if p.wanted {
-        say_passed(rt, before, octets);
+        say_passed(rt, p.octets, octets);
     }
-    Progress {
-        wanted: p.wanted,
-        octets: octets,
-    }
+    Progress { octets, ..p }
 }
 
 // The last line is ended, where there was one.
 pub(crate) fn end(rt: &impl Eprint, p: Progress) {
-    if p.wanted {
-        if p.octets / MIB >= FIRST {
-            let _ = eprintln!(rt;);
-        }
+    if p.wanted && p.octets / MIB >= FIRST {
+        let _ = eprintln!(rt;);
     }
 }

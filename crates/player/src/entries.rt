@@ -3,12 +3,13 @@
 ghost use Rattle.std.specs.Prelude.{◌<◌};
 ghost use Rattle.numbers.specs.Sizes.{places};
 
-use crate::show::{LINE, put_neighbour, say, say_refusal};
-use compare::{Compared, ENTRY, LEFT, LONGEST};
+use crate::show::{LINE, put_neighbour, say_refusal};
+use compare::{ENTRY, Kind, LONGEST};
 use forms::put_form;
 use lldpdu::{chassis_of, port_of};
 use numbers::{PLACES, Table};
 use octets::octet;
+use output::Output;
 use place::{lldpdu_at, place_of};
 use play::{Seen, between};
 use std::io;
@@ -18,17 +19,16 @@ const MOST: usize = LONGEST / ENTRY;
 
 // The seconds left of the record with the identity of an LLDPDU that was heard on port p (N2). There are none exactly if they are 0 (N5).
 fn seconds_in(t: Table, buffer: &[u8], p: u8, l: &[u8]) -> u16 {
-    let i = place_of(t, buffer, p, l, chassis_of(l), port_of(l));
-    if i >= PLACES {
-        return 0;
+    match place_of(t, buffer, p, l, chassis_of(l), port_of(l)) {
+        Some(i) => t.seconds[i],
+        None => 0,
     }
-    t.seconds[i]
 }
 
-fn put_seconds(line: &mut [u8], at: usize, seconds: u16) -> usize {
+fn put_seconds(line: &mut Output, seconds: u16) {
     let forms = b"- |# ";
     let which = if seconds == 0 { 1 } else { 2 };
-    put_form(line, at, forms, which, &[seconds as usize], forms)
+    put_form(line, forms, which, &[seconds as usize], forms);
 }
 
 // The record in place i of its table, with its seconds in the first and in the second. The words are in the order of the kinds (D1).
@@ -43,20 +43,20 @@ fn show_change(
 ) -> io::Result<()>
     requires { i < places }
 {
-    let mut line = [0u8; LINE];
+    let mut room = [0u8; LINE];
+    let mut line = Output::new(&mut room);
     let words = b"left # |joined # |seconds # |altered # ";
-    let a = put_form(
+    put_form(
         &mut line,
-        0,
         words,
         kind as usize,
         &[t.port[i] as usize],
         words,
     );
-    let b = put_seconds(&mut line, a, was);
-    let c = put_seconds(&mut line, b, is);
-    let end = put_neighbour(&mut line, c, t, buffer, i);
-    say(rt, &line, end)
+    put_seconds(&mut line, was);
+    put_seconds(&mut line, is);
+    put_neighbour(&mut line, t, buffer, i);
+    rt.write_all(line.front())
 }
 
 // An entry names a place of the first table where its record left, and else of the second (D1).
@@ -72,7 +72,7 @@ fn show_entry(
     if i >= PLACES {
         return Ok(());
     }
-    if kind == LEFT {
+    if kind == u8::from(Kind::Left) {
         return show_change(rt, kind, first, before, i, first.seconds[i], 0);
     }
     let l = lldpdu_at(after, i, second.length[i]);
@@ -89,10 +89,7 @@ fn show_entries(
     second: Table,
     after: &[u8],
 ) -> io::Result<()> {
-    for k in 0..MOST {
-        if k >= n {
-            break;
-        }
+    for k in 0..n.min(MOST) {
         let kind = octet(list, k * ENTRY);
         let place = octet(list, k * ENTRY + 1) as usize;
         show_entry(rt, kind, place, first, before, second, after)?;
@@ -109,11 +106,8 @@ pub(crate) fn show_changes(
     after: &[u8],
 ) -> io::Result<()> {
     let mut list = [0u8; LONGEST];
-    let answer = between(first, before, second, after, &mut list);
-    let t = first.table;
-    let u = second.table;
-    match answer {
-        Compared::Listed(n) => show_entries(rt, n, &list, t, before, u, after),
-        Compared::Refused(n) => say_refusal(rt, n),
+    match between(first, before, second, after, &mut list) {
+        Ok(n) => show_entries(rt, n, &list, first.table, before, second.table, after),
+        Err(refusal) => say_refusal(rt, refusal),
     }
 }

@@ -55,11 +55,9 @@ fn is_compared(rt: &impl Env) -> bool {
 
 // A look from a new table on.
 fn new_look(buffer: &mut [u8], limit: usize) -> Look {
-    let started = start(empty_table(), buffer);
-    let table = started.table;
     Look {
-        table: table,
-        limit: limit,
+        table: start(empty_table(), buffer).table,
+        limit,
     }
 }
 
@@ -90,12 +88,10 @@ fn play_all(
 }
 
 fn show_played(rt: &(impl Env + Print), p: Played, before: &[u8], after: &[u8]) -> io::Result<()> {
-    let first = p.first;
-    let second = p.second;
     if is_compared(rt) {
-        return show_changes(rt, first, before, second, after);
+        return show_changes(rt, p.first, before, p.second, after);
     }
-    show_table(rt, first, before)
+    show_table(rt, p.first, before)
 }
 
 // The lines, or what failed. A pipe that nobody reads any more is no failure (J3).

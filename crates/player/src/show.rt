@@ -6,35 +6,31 @@ ghost use Rattle.numbers.specs.Sizes.{places};
 use forms::put_form;
 use lldpdu::{chassis_of, port_of};
 use numbers::{PLACES, Table};
+use output::Output;
 use place::lldpdu_at;
 use play::Seen;
-use replay::Replayed;
+use refusal::Refusal;
 use std::io;
-use text::{Part, text_of};
 
 // More than the longest line, which has 879 octets (J4): seven for the word, two for the port, five for the seconds in each table, 70 for a local
 // chassis (L3), one for a subtype and 764 for a port ID of 255 octets (L4), 17 for a sender, seven spaces and its end.
 pub(crate) const LINE: usize = 1024;
 
-// The front of a line, up to where it ends.
-pub(crate) fn say(rt: &impl Print, line: &[u8], end: usize) -> io::Result<()> {
-    rt.write_all(text_of(line, Part { start: 0, len: end }))
-}
-
-pub(crate) fn say_refusal(rt: &impl Print, n: u8) -> io::Result<()> {
-    let mut line = [0u8; LINE];
+pub(crate) fn say_refusal(rt: &impl Print, refusal: Refusal) -> io::Result<()> {
+    let mut room = [0u8; LINE];
+    let mut line = Output::new(&mut room);
     let form = b"refused #\n";
-    let end = put_form(&mut line, 0, form, 1, &[n as usize], form);
-    say(rt, &line, end)
+    put_form(&mut line, form, 1, &[refusal as usize], form);
+    rt.write_all(line.front())
 }
 
 // A call of its own, so that the number of octets is known.
-fn put_sender(line: &mut [u8], at: usize, sender: [u8; 6]) -> usize {
-    put_form(line, at, b"~\n", 1, &[0, 6], &sender)
+fn put_sender(line: &mut Output, sender: [u8; 6]) {
+    put_form(line, b"~\n", 1, &[0, 6], &sender);
 }
 
 // What every line ends with: chassis, port ID and sender of the record in place i.
-pub(crate) fn put_neighbour(line: &mut [u8], at: usize, t: Table, buffer: &[u8], i: usize) -> usize
+pub(crate) fn put_neighbour(line: &mut Output, t: Table, buffer: &[u8], i: usize)
     requires { i < places }
 {
     let lldpdu = lldpdu_at(buffer, i, t.length[i]);
@@ -48,10 +44,8 @@ pub(crate) fn put_neighbour(line: &mut [u8], at: usize, t: Table, buffer: &[u8],
         id.octets.start,
         id.octets.len,
     ];
-    let end = put_form(line, at, b"@ # ~ ", 1, &values, lldpdu);
-    let sender = t.sender[i];
-    let octets = sender.octets;
-    put_sender(line, end, octets)
+    put_form(line, b"@ # ~ ", 1, &values, lldpdu);
+    put_sender(line, t.sender[i].octets);
 }
 
 // Port and seconds left, then the neighbour; of a free place nothing.
@@ -61,12 +55,13 @@ fn show_place(rt: &impl Print, t: Table, buffer: &[u8], i: usize) -> io::Result<
     if t.length[i] == 0 {
         return Ok(());
     }
-    let mut line = [0u8; LINE];
+    let mut room = [0u8; LINE];
+    let mut line = Output::new(&mut room);
     let form = b"# # ";
     let values = [t.port[i] as usize, t.seconds[i] as usize];
-    let at = put_form(&mut line, 0, form, 1, &values, form);
-    let end = put_neighbour(&mut line, at, t, buffer, i);
-    say(rt, &line, end)
+    put_form(&mut line, form, 1, &values, form);
+    put_neighbour(&mut line, t, buffer, i);
+    rt.write_all(line.front())
 }
 
 fn show_places(rt: &impl Print, t: Table, buffer: &[u8]) -> io::Result<()> {
@@ -78,10 +73,8 @@ fn show_places(rt: &impl Print, t: Table, buffer: &[u8]) -> io::Result<()> {
 
 // One look (J3).
 pub(crate) fn show_table(rt: &impl Print, seen: Seen, buffer: &[u8]) -> io::Result<()> {
-    let answer = seen.answer;
-    let table = seen.table;
-    match answer {
-        Replayed::Handed(_) => show_places(rt, table, buffer),
-        Replayed::Refused(n) => say_refusal(rt, n),
+    match seen.answer {
+        Ok(_) => show_places(rt, seen.table, buffer),
+        Err(refusal) => say_refusal(rt, refusal),
     }
 }

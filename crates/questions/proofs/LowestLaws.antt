@@ -11,33 +11,37 @@ use native.Mathlib.Omega.{arith}
 use borrow.Author.Tests.{lt-ltb}
 use lib.Dec.{eqb}
 use lib.ListN.{get_or}
+use Rattle.std.specs.Prelude.{Result, Ok, Err, Some, None}
+use Rattle.std.specs.Prelude.{Option as CodeOption}
 use Rattle.tally.specs.Tests.{pick}
+use Rattle.refusal.specs.declared.Refusal.{Refusal}
 use Rattle.lldpdu.specs.Extent.{extent_of}
 use Rattle.naming.specs.Naming as naming
 use Rattle.naming.proofs.NamingLaws.{naming-numbers}
 use Rattle.naming.specs.declared.Number.{Number}
 use Rattle.naming.specs.declared.Naming.{Naming}
-use Rattle.naming.specs.declared.Naming.TheVariants as naming-is
 use Rattle.rules.specs.Shares.{port_is}
 use Rattle.rules.specs.Model.{Rec}
 use Rattle.numbers.specs.Sizes.{ports, places}
 use Rattle.place.specs.State.{Place, State, at, used, lldpdu_at, count_records}
 use Rattle.fitness.specs.Fit.{fit}
-use Rattle.questions.specs.Sight.{counted, sight_in, naming_in_place, on_naming, sight_from, sight, seen_in_place, on_seen, seen_from}
+use Rattle.questions.specs.Sight.{counted, place_seen, named, naming_in_place, on_naming, sight_from, sight, seen_in_place, on_seen, seen_from}
 use Rattle.fitness.specs.View.{rec_of, place_of, view}
-use Rattle.questions.specs.declared.Count.TheVariants as count-is
 use Rattle.questions.specs.declared.Sight.{Sight}
-use Rattle.questions.specs.declared.Sight.TheVariants.{Nobody, At}
 use Rattle.fitness.proofs.ViewLaws.{get_or-view, count-holds}
 
 -- What the reader finds at a place, by the rules alone
 
-pub naming-seen : (a : List ℕ) (x : Place) → naming.numbers_of (naming_in_place a x) ≡ seen_in_place a x
+named-numbers : (r : Result (CodeOption Naming) Refusal) → naming.numbers_named (named r) ≡ naming.numbers_of r
+named-numbers (Ok n) = refl
+named-numbers (Err r) = refl
+
+pub naming-seen : (a : List ℕ) (x : Place) → naming.numbers_named (naming_in_place a x) ≡ seen_in_place a x
 naming-seen a x = go (used x)
   where
     go : (b : Bool)
-        → naming.numbers_of (pick b (naming.naming_of (lldpdu_at x) a) naming-is.Nowhere) ≡ pick b (naming.seen_at (extent_of (lldpdu_at x)) (lldpdu_at x) a) none
-    go true = naming-numbers (lldpdu_at x) a
+        → naming.numbers_named (pick b (named (naming.naming_of (lldpdu_at x) a)) None) ≡ pick b (naming.seen_at (extent_of (lldpdu_at x)) (lldpdu_at x) a) none
+    go true = named-numbers (naming.naming_of (lldpdu_at x) a) ∙ naming-numbers (lldpdu_at x) a
     go false = refl
 
 -- it is asked of the record that the model has there
@@ -58,16 +62,15 @@ seen-record s a k l = go (eqb (at s k).len 0) ∙ ap (seen_in_record a) (sym (ge
 
 -- The answer from what is found, and back
 
-abbrev pub sight_of : Option (ℕ × (Number × Number)) → Sight
-sight_of none = Nobody
-sight_of (some (k, (i, p))) = At k i p
+abbrev pub sight_of : Option (ℕ × (Number × Number)) → CodeOption Sight
+sight_of none = None
+sight_of (some (k, (i, p))) = Some (record { place = k; interface = i; port = p })
 
-on-naming : (n : Naming) (k : ℕ) (rest : Option (ℕ × (Number × Number))) → on_naming n k (sight_of rest) ≡ sight_of (on_seen (naming.numbers_of n) k rest)
-on-naming (naming-is.Refused r) k rest = refl
-on-naming naming-is.Nowhere k rest = refl
-on-naming (naming-is.Link i p) k rest = refl
+on-naming : (n : CodeOption Naming) (k : ℕ) (rest : Option (ℕ × (Number × Number))) → on_naming n k (sight_of rest) ≡ sight_of (on_seen (naming.numbers_named n) k rest)
+on-naming None k rest = refl
+on-naming (Some n) k rest = refl
 
-in-of : (x : Option (ℕ × (Number × Number))) → sight_in (sight_of x) ≡ x
+in-of : (x : Option (ℕ × (Number × Number))) → place_seen (sight_of x) ≡ x
 in-of none = refl
 in-of (some (k, (i, p))) = refl
 
@@ -89,8 +92,8 @@ module _ (s : State) (a : List ℕ) where
       ∙ on-naming (naming_in_place a (at s k)) k (seen_from s a (suc k) m)
       ∙ ap (λ (x : Option (Number × Number)). sight_of (on_seen x k (seen_from s a (suc k) m))) (naming-seen a (at s k))
 
-  pub sight-seen : (m k : ℕ) → sight_in (sight_from s a k m) ≡ seen_from s a k m
-  sight-seen m k = ap sight_in (sight-is m k) ∙ in-of (seen_from s a k m)
+  pub sight-seen : (m k : ℕ) → place_seen (sight_from s a k m) ≡ seen_from s a k m
+  sight-seen m k = ap place_seen (sight-is m k) ∙ in-of (seen_from s a k m)
 
   -- Which place it is
 
@@ -165,26 +168,26 @@ module _ (s : State) (a : List ℕ) where
 
   -- the answer names a place exactly where it is the lowest, and nobody exactly where there is none
   module _ (from m : ℕ) where
-    pub at-lowest : (k : ℕ) (i p : Number) → sight_from s a from m ≡ At k i p → LowestSeen from m k (i, p)
-    at-lowest k i p e = found-lowest m from k (i, p) (sym (sight-seen m from) ∙ ap sight_in e)
+    pub at-lowest : (k : ℕ) (i p : Number) → sight_from s a from m ≡ Some (record { place = k; interface = i; port = p }) → LowestSeen from m k (i, p)
+    at-lowest k i p e = found-lowest m from k (i, p) (sym (sight-seen m from) ∙ ap place_seen e)
 
-    pub lowest-at : (k : ℕ) (i p : Number) → LowestSeen from m k (i, p) → sight_from s a from m ≡ At k i p
+    pub lowest-at : (k : ℕ) (i p : Number) → LowestSeen from m k (i, p) → sight_from s a from m ≡ Some (record { place = k; interface = i; port = p })
     lowest-at k i p l = sight-is m from ∙ ap sight_of (lowest-found m from k (i, p) l)
 
-    pub nobody-none : sight_from s a from m ≡ Nobody → Unnamed from m
-    nobody-none e = found_none m from (sym (sight-seen m from) ∙ ap sight_in e)
+    pub nobody-none : sight_from s a from m ≡ None → Unnamed from m
+    nobody-none e = found_none m from (sym (sight-seen m from) ∙ ap place_seen e)
 
-    pub none-nobody : Unnamed from m → sight_from s a from m ≡ Nobody
+    pub none-nobody : Unnamed from m → sight_from s a from m ≡ None
     none-nobody h = sight-is m from ∙ ap sight_of (none_found m from h)
 
 -- The calls on a fit table
 
 module _ (s : State) (e : fit s ≡ true) where
-  pub sight-as-from : (a : List ℕ) (from : ℕ) → sight a from s ≡ sight_from s a from (places - from)
+  pub sight-as-from : (a : List ℕ) (from : ℕ) → sight a from s ≡ Ok (sight_from s a from (places - from))
   unfolding sight
   sight-as-from a from = rw e
 
   -- how many is the number of used places with that port
-  pub counted-fit : (p : ℕ) → p < ports → counted p s ≡ count-is.Holds (count_records s (port_is p))
+  pub counted-fit : (p : ℕ) → p < ports → counted p s ≡ Ok (count_records s (port_is p))
   unfolding counted
-  counted-fit p l = rw (e, lt-ltb p ports l) (ap count-is.Holds (sym (count-holds s p)))
+  counted-fit p l = rw (e, lt-ltb p ports l) (ap Ok (sym (count-holds s p)))

@@ -10,7 +10,10 @@ use lib.ListN.{length, drop, length-append, get_or-append}
 use lib.Seq.{drop_at}
 use Rattle.tally.proofs.TestsLaws.{held}
 use Rattle.octets.proofs.AddressLaws.{six-front}
-use Rattle.reading.specs.Reading.{refused_reading, reading_of}
+use Rattle.std.specs.Prelude.{Result, Err}
+use Rattle.refusal.specs.declared.Refusal.{Refusal}
+use Rattle.refusal.specs.declared.Refusal.TheVariants.{NoFrame}
+use Rattle.reading.specs.Reading.{reading_of}
 use Rattle.reading.specs.Meaning.{refused_answer, answer_of, Reads}
 use Rattle.reading.specs.declared.Reading.{Reading}
 use Rattle.reader.specs.Frame.{frame_tests, frame_ok, on_frame, ReadsFrame}
@@ -40,9 +43,9 @@ module _ (h s : List ℕ) (l : length h ≡ 14) (o : frame_ok h ≡ true) (m : l
   frame-agrees three answer = on-good three answer (h ++ s) header-fits ∙ ap answer (drop_at h s 14 l)
 
   -- what `read_frame` may answer on the frame, `read_lldpdu` may answer on the octets behind the header
-  pub frame-reads : {r : Reading} → ReadsFrame (h ++ s) r → Reads (drop 14 (h ++ s)) r
+  pub frame-reads : {r : Result Reading Refusal} → ReadsFrame (h ++ s) r → Reads (drop 14 (h ++ s)) r
   frame-reads a =
       record {
-        exact = a.exact ∙ on-good (refused_reading 3) reading_of (h ++ s) header-fits;
+        exact = a.exact ∙ on-good (Err NoFrame) reading_of (h ++ s) header-fits;
         means = a.means ∙ on-good (refused_answer 3) answer_of (h ++ s) header-fits;
       }

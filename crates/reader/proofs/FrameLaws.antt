@@ -9,7 +9,10 @@ use lib.ListN.{length, drop}
 use Rattle.tally.specs.Tests.{pick}
 use Rattle.tally.proofs.TestsLaws.{held, all-fails}
 use Rattle.octets.specs.Address.{is_group}
-use Rattle.reading.specs.Reading.{refused_reading, reading_of}
+use Rattle.std.specs.Prelude.{Result, Err}
+use Rattle.refusal.specs.declared.Refusal.{Refusal}
+use Rattle.refusal.specs.declared.Refusal.TheVariants.{NoFrame}
+use Rattle.reading.specs.Reading.{reading_of}
 use Rattle.reading.specs.Meaning.{refused_answer, answer_of, meant}
 use Rattle.reader.specs.Frame.{source_of, frame_tests, frame_ok, on_frame, ReadsFrame}
 use Rattle.reading.proofs.MeaningLaws.{reading-means}
@@ -40,10 +43,10 @@ module _ {A : Type 0} (three : A) (answer : List ℕ → A) (f : List ℕ) where
   on-bad e = rw e
 
 -- the one answer on a frame means what it should
-pub frame-exactly : (f : List ℕ) {r : Reading} → r ≡ on_frame (refused_reading 3) reading_of f → ReadsFrame f r
+pub frame-exactly : (f : List ℕ) {r : Result Reading Refusal} → r ≡ on_frame (Err NoFrame) reading_of f → ReadsFrame f r
 unfolding on_frame
 frame-exactly f e = record { exact = e; means = ap (meant (drop 14 f)) e ∙ go (frame_ok f) }
   where
-    go : (b : Bool) → meant (drop 14 f) (pick b (reading_of (drop 14 f)) (refused_reading 3)) ≡ pick b (answer_of (drop 14 f)) (refused_answer 3)
+    go : (b : Bool) → meant (drop 14 f) (pick b (reading_of (drop 14 f)) (Err NoFrame)) ≡ pick b (answer_of (drop 14 f)) (refused_answer 3)
     go true = reading-means (drop 14 f)
     go false = refl

@@ -1,13 +1,15 @@
 -- A frame: when its length, destination, type and source are as they should be (F1 to F4), and the answer on it (A5).
 -- Refusal 3 is given exactly where they are not (R3); else the answer is that on the octets from 14 on.
-use Rattle.std.specs.Prelude.{ℕ, ◌≡◌, List, [], ◌∷◌, Bool, not, length, drop, get_or, leb, eqb}
+use Rattle.std.specs.Prelude.{ℕ, ◌≡◌, List, [], ◌∷◌, Bool, not, length, drop, get_or, leb, eqb, Result, Err}
 use Rattle.tally.specs.Tests.{pick, either, all}
 use Rattle.tally.specs.Due.{first_due}
 use Rattle.octets.specs.Address.{six_at, same_octets, is_group}
 use Rattle.lldpdu.specs.Rows.{rows_of}
-use Rattle.reading.specs.Reading.{refused_reading, reading_of}
+use Rattle.reading.specs.Reading.{reading_of}
 use Rattle.reading.specs.Meaning.{refused_answer, answer_of, meant}
 use Rattle.reading.specs.declared.Reading.{Reading}
+use Rattle.refusal.specs.declared.Refusal.{Refusal}
+use Rattle.refusal.specs.declared.Refusal.TheVariants.{NoFrame}
 
 -- FF-FF-FF-FF-FF-FF and 01-80-C2-00-00-0E (F2)
 abbrev pub everyone : List ℕ
@@ -53,6 +55,6 @@ unfoldable pub frame_refusal : List ℕ → ℕ
 frame_refusal f = first_due (frame_rows f [])
 
 -- The contract of the reader on a frame: this answer and no other, and it means what the rules say
-pub record ReadsFrame (f : List ℕ) (r : Reading) : Type 0 where
-  pub exact : r ≡ on_frame (refused_reading 3) reading_of f
+pub record ReadsFrame (f : List ℕ) (r : Result Reading Refusal) : Type 0 where
+  pub exact : r ≡ on_frame (Err NoFrame) reading_of f
   pub means : meant (lldpdu_of f) r ≡ on_frame (refused_answer 3) answer_of f

@@ -10,8 +10,9 @@ pub use extension::{
     address_at, counts_of, item_at, pairing_at, port_item_at,
 };
 pub use frame::{HEADER, outline_frame, read_frame, source_of};
-pub use lldpdu::{Extent, IdPart, Outline, outline_lldpdu};
+pub use lldpdu::{IdPart, Outline, outline_lldpdu};
 pub use naming::{Naming, Number, link_naming};
 pub use reading::{Description, Link, Reading, read_lldpdu};
+pub use refusal::Refusal;
 pub use system::{Capabilities, System, empty_system};
-pub use text::{Optional, Part, Parts, empty_parts, nth_part, part_count, text_of, with_part};
+pub use text::{Part, Parts, empty_parts, nth_part, part_count, text_of, with_part};

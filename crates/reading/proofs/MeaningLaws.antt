@@ -4,8 +4,8 @@ use Prim.{Unit, tt}
 use Prim.Native.Nat.{ℕ, zero, suc, ◌+◌, ◌*◌, ◌<◌, ◌≤◌}
 use mathlib.Core.Path.{◌≡◌, refl, sym, ap, ap₂, ◌∙◌}
 use mathlib.Core.List.{List, [], ◌∷◌}
-use mathlib.Core.Bool.{Bool, true, false, true≢false}
-use mathlib.Core.Option.{none, some}
+use mathlib.Core.Bool.{Bool, true, false}
+use mathlib.Core.Option.{some}
 use native.Mathlib.Omega.{arith}
 use borrow.Author.Tests.{eqb-true, eq-eqb}
 use lib.ListN.{length, drop, get_or, length-drop}
@@ -19,29 +19,26 @@ use Rattle.fields.specs.declared.Field.{Field}
 use Rattle.fields.specs.declared.Field.TheVariants.{Skipped, Malformed, Says}
 use Rattle.links.proofs.LinkLaws.{link-has}
 use Rattle.fields.proofs.FieldLaws.{Fits, field_fits}
-use Rattle.walk.specs.Walk.{Tlv, Walked, walk}
+use Rattle.walk.specs.Walk.{Tlv, Walked, walk, Extent}
 use Rattle.lldpdu.specs.Extent.{rest_place, rest_of, extent_of}
 use Rattle.lldpdu.specs.Leading.{front_of}
-use Rattle.lldpdu.specs.Outline.{refused_outline, outline_at}
-use Rattle.text.specs.Part.{text_of, optional_text}
+use Rattle.lldpdu.specs.Outline.{outline_in, outline_at}
+use Rattle.text.specs.Part.{optional_text}
 use Rattle.found.specs.Found.{nothing, mark_of, gather, survey_by, htip_in}
-use Rattle.reading.specs.Reading.{link_at, optional_at, link_parts, found_in, description_at, refused_reading, reading_at, reading_of}
-use Rattle.found.specs.Contents.{on_field, contents, LinkInfo, link_in, tlvs_in}
+use Rattle.reading.specs.Reading.{link_at, optional_at, found_in, description_at, reading_at, reading_of}
+use Rattle.found.specs.Contents.{on_field, contents, link_in, tlvs_in}
 use Rattle.reading.specs.Meaning.{first_link, first_content, said_in, answer_at, answer_of, link_meant, said_by, meant, Reads}
-use Rattle.lldpdu.proofs.ExtentLaws.{not-both, extent-at}
 use Rattle.lldpdu.proofs.LeadingLaws.{front-refused, front-on}
 use Rattle.found.proofs.MarkLaws.{AllIn, walk-in, text_at, up_to2, Means, topic-means}
 use Rattle.found.proofs.VerdictLaws.{htip-means}
 use Rattle.system.proofs.SystemLaws.{system-means}
-use Rattle.walk.specs.declared.Extent.{Extent}
-use Rattle.walk.specs.declared.Extent.TheVariants.{Refused, Octets}
+use Rattle.refusal.specs.declared.Refusal.{Refusal}
+use Rattle.std.specs.Prelude.{Result, Ok, Err, Option as CodeOption, Some, None}
 use Rattle.lldpdu.specs.declared.outline.Outline.{Outline}
 use Rattle.found.specs.declared.Mark.{Mark}
 use Rattle.found.specs.declared.Survey.{Survey}
 use Rattle.reading.specs.declared.Description.{Description}
 use Rattle.reading.specs.declared.Link.{Link}
-use Rattle.reading.specs.declared.Link.TheVariants as link-is
-use Rattle.reading.specs.declared.LinkParts.{LinkParts}
 use Rattle.reading.specs.declared.Reading.{Reading}
 
 -- Link information
@@ -89,9 +86,9 @@ met {m = m} {cs = cs} i = go (length cs) i.count
     go (suc n) q = rw q
 
 -- the parts of a link information lie in a text of n octets
-abbrev pub LinkFits : ℕ → Link → Type 0
-LinkFits n link-is.Absent = Unit {0}
-LinkFits n (link-is.Table i p a) = (i.start + i.len ≤ n) × ((p.start + p.len ≤ n) × (a.start + a.len ≤ n))
+abbrev pub LinkFits : ℕ → CodeOption Link → Type 0
+LinkFits n None = Unit {0}
+LinkFits n (Some l) = (l.interface.start + l.interface.len ≤ n) × ((l.port.start + l.port.len ≤ n) × (l.addresses.start + l.addresses.len ≤ n))
 
 -- the link information at a mark that was set, by n, m and k of its content
 module _ (s : List ℕ) (mark : Mark) (t : eqb mark.times 0 ≡ false) (h : mark.start + mark.len ≤ length s) (e : Ends (text_at s mark)) where
@@ -152,7 +149,7 @@ pub reading-link-fits : (s : List ℕ) → LinkFits (length s) (link_at s (mark_
 reading-link-fits s =
     link_fits s (mark_of link (found_in s)) (contents link (tlvs_in s)) (contents-end (tlvs_in s)) (topic-means s link (rest_of s).tlvs (omega arith) (rest_in s))
 
-said-means : (s : List ℕ) (e : ℕ) → said_by s (description_at s (outline_at (Octets e) s) (found_in s)) ≡ said_in s (tlvs_in s)
+said-means : (s : List ℕ) (e : ℕ) → said_by s (description_at s (outline_in e s) (found_in s)) ≡ said_in s (tlvs_in s)
 said-means s e =
     let m : (t : ℕ) → t < topics → Means s (mark_of t (found_in s)) (contents t (tlvs_in s)) = λ t h. topic-means s t (rest_of s).tlvs h (rest_in s) in
     rw (
@@ -172,11 +169,11 @@ unfolding reading_of answer_of
 reading-means s = go (extent_of s)
   where
     go : (x : Extent) → meant s (reading_at x s) ≡ answer_at x s
-    go (Refused n) = refl
-    go (Octets e) = rw (htip-means s (rest_of s).tlvs (rest_in s), said-means s e)
+    go (Err r) = refl
+    go (Ok e) = rw (htip-means s (rest_of s).tlvs (rest_in s), said-means s e)
 
 -- the one answer means what it should
-pub reads-exactly : (s : List ℕ) {r : Reading} → r ≡ reading_of s → Reads s r
+pub reads-exactly : (s : List ℕ) {r : Result Reading Refusal} → r ≡ reading_of s → Reads s r
 reads-exactly s e = record { exact = e; means = ap (meant s) e ∙ reading-means s }
 
 -- What the code has in hand of an LLDPDU: its first three TLVs, and what was gathered behind them
@@ -185,24 +182,27 @@ by-extent : (s : List ℕ) {x : Extent} → extent_of s ≡ x → reading_at x s
 unfolding reading_of
 by-extent s e = ap (λ (x : Extent). reading_at x s) (sym e)
 
-module _ (s : List ℕ) (right : Bool) (otherwise : ℕ) {o : Outline} (t : o ≡ pick right (outline_at (front_of s) s) (refused_outline otherwise)) where
-  -- refused by the first three, or by what stands before them
-  pub refuses : {n : ℕ} → o.extent ≡ Refused n → refused_reading n ≡ pick right (reading_of s) (refused_reading otherwise)
-  refuses {n} e = go right (ap (λ (x : Outline). x.extent) (sym t) ∙ e)
+-- o is the outline of the first three
+module _ (s : List ℕ) {o : Result Outline Refusal} (t : o ≡ outline_at (front_of s) s) where
+  pub refuses : {r : Refusal} → o ≡ Err r → Err r ≡ reading_of s
+  refuses {r} e = go (front_of s) refl (sym t ∙ e)
     where
-      go : (b : Bool) → (pick b (outline_at (front_of s) s) (refused_outline otherwise)).extent ≡ Refused n → refused_reading n ≡ pick b (reading_of s) (refused_reading otherwise)
-      go true q = by-extent s (front-refused s (sym (extent-at (front_of s) s) ∙ q))
-      go false q = let z : n ≡ otherwise = cc in ap refused_reading z
+      go : (x : Extent) → front_of s ≡ x → outline_at x s ≡ Err r → Err r ≡ reading_of s
+      go (Err m) q w = let z : r ≡ m = cc in ap Err z ∙ by-extent s (front-refused s q)
+      go (Ok e) q w = cc
 
-  pub goes_on : {from : ℕ} → o.extent ≡ Octets from → (right ≡ true) × ((front_of s ≡ Octets from) × (o ≡ outline_at (Octets from) s))
-  goes_on {from} e = go right t (ap (λ (x : Outline). x.extent) (sym t) ∙ e)
+  pub goes_on : {l : Outline} → o ≡ Ok l → (front_of s ≡ Ok l.octets) × (l ≡ outline_in l.octets s)
+  goes_on {l} e = go (front_of s) refl (sym t ∙ e)
     where
-      go : (b : Bool) → o ≡ pick b (outline_at (front_of s) s) (refused_outline otherwise) → (pick b (outline_at (front_of s) s) (refused_outline otherwise)).extent ≡ Octets from
-          → (b ≡ true) × ((front_of s ≡ Octets from) × (o ≡ outline_at (Octets from) s))
-      go true u q = let f = sym (extent-at (front_of s) s) ∙ q in (refl, (f, u ∙ ap (λ (x : Extent). outline_at x s) f))
-      go false u q = not-both q
+      go : (x : Extent) → front_of s ≡ x → outline_at x s ≡ Ok l → (front_of s ≡ Ok l.octets) × (l ≡ outline_in l.octets s)
+      go (Err m) q w = cc
+      go (Ok n) q w =
+          let z : outline_in n s ≡ l = cc in
+          let k = ap (λ (y : Outline). y.octets) z in
+          (q ∙ ap Ok k, sym z ∙ ap (λ (m : ℕ). outline_in m s) k)
 
-module _ (s : List ℕ) {from : ℕ} (t : front_of s ≡ Octets from) {v : Survey} (g : v ≡ survey_by nothing (walk (drop from s) 0 from)) where
+-- v is what was gathered behind them
+module _ (s : List ℕ) {from : ℕ} (t : front_of s ≡ Ok from) {v : Survey} (g : v ≡ survey_by nothing (walk (drop from s) 0 from)) where
   rest-is : walk (drop from s) 0 from ≡ rest_of s
   rest-is = ap (λ (n : ℕ). walk (drop n s) 0 n) (front-on s t).0
 
@@ -214,7 +214,7 @@ module _ (s : List ℕ) {from : ℕ} (t : front_of s ≡ Octets from) {v : Surve
   unfolding survey_by
   found-is = ap (λ (y : Survey). y.found) g ∙ ap (λ (w : Walked). gather nothing w.tlvs) rest-is
 
-  pub walk-refuses : {n : ℕ} → v.extent ≡ Refused n → refused_reading n ≡ reading_of s
+  pub walk-refuses : {r : Refusal} → v.extent ≡ Err r → Err r ≡ reading_of s
   walk-refuses e = by-extent s (extent-is e)
 
   pub ready : (mark_of link v.found).start ≤ length s
@@ -222,23 +222,10 @@ module _ (s : List ℕ) {from : ℕ} (t : front_of s ≡ Octets from) {v : Surve
       let inside = marks-inside s link (omega arith) in
       rw found-is (omega arith)
 
-  pub assembled : {e : ℕ} → v.extent ≡ Octets e → {o : Outline} → o ≡ outline_at (Octets from) s
+  pub assembled : {e : ℕ} → v.extent ≡ Ok e → {o : Outline} → o ≡ outline_in from s
       → {h : Bool} {d : Description} → h ≡ htip_in v.found → d ≡ description_at s o v.found
-      → record { extent = Octets e; htip = h; description = d } ≡ reading_of s
+      → Ok (record { octets = e; htip = h; description = d }) ≡ reading_of s
   assembled {e = e} u o x y =
       let d = y ∙ ap₂ (description_at s) o found-is in
       let h = x ∙ ap htip_in found-is in
-      (λ i. record { extent = Octets e; htip = h i; description = d i }) ∙ by-extent s (extent-is u)
-
--- Link information that the code has taken apart
-
-abbrev pub info_of : List ℕ → LinkParts → LinkInfo
-info_of s t = record { interface = text_of s t.interface; port = text_of s t.port; addresses = text_of s t.addresses }
-
-pub parts-absent : (s : List ℕ) (l : Link) {t : LinkParts} → t ≡ link_parts l → t.there ≡ false → link_meant s l ≡ none
-parts-absent s link-is.Absent e h = refl
-parts-absent s (link-is.Table i p a) e h = absurd (true≢false (sym (ap (λ (x : LinkParts). x.there) e) ∙ h))
-
-pub parts-there : (s : List ℕ) (l : Link) {t : LinkParts} → t ≡ link_parts l → t.there ≡ true → link_meant s l ≡ some (info_of s t)
-parts-there s link-is.Absent e h = absurd (true≢false (sym h ∙ ap (λ (x : LinkParts). x.there) e))
-parts-there s (link-is.Table i p a) e h = ap (λ (x : LinkParts). some (info_of s x)) (sym e)
+      (λ i. Ok (record { octets = e; htip = h i; description = d i })) ∙ by-extent s (extent-is u)

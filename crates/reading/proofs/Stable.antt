@@ -16,9 +16,9 @@ use Rattle.found.proofs.MarkLaws.{AllIn, text_at, topic-means}
 use Rattle.system.proofs.SystemLaws.{system-same}
 use Rattle.reading.proofs.MeaningLaws.{rest_in}
 use Rattle.lldpdu.proofs.Stable.{front, extent-stable, seconds-same}
-use Rattle.walk.specs.declared.Extent.TheVariants.{Octets}
+use Rattle.std.specs.Prelude.{Ok}
 
-module _ (s t : List ℕ) (e : ℕ) (v : extent_of s ≡ Octets e) where
+module _ (s t : List ℕ) (e : ℕ) (v : extent_of s ≡ Ok e) where
   abbrev u : List ℕ
   u = take e s ++ t
 

@@ -1,21 +1,20 @@
 -- What an LLDPDU says, by the rules alone and in lists of octets: this is what must be believed of the reader.
 -- No place, no mark and no code type stands in it; what the code answers means this, and that is part of its contract.
-use Rattle.std.specs.Prelude.{ℕ, ◌≡◌, List, [], ◌∷◌, Bool, false}
+use Rattle.std.specs.Prelude.{ℕ, ◌≡◌, List, [], ◌∷◌, Bool, false, Result, Ok, Err, Option as CodeOption, Some, None}
 use Rattle.std.proofs.Math.Option.{Option, none, some}
 use Rattle.links.specs.Link.{type_count, number_count}
 use Rattle.found.specs.Contents.{contents, htip_of, first, LinkInfo, link_in, tlvs_in}
 use Rattle.fields.specs.Field.{port_description, category, manufacturer, model_name, model_number, link, address_list, extension}
-use Rattle.walk.specs.Walk.{Tlv}
+use Rattle.walk.specs.Walk.{Tlv, Extent}
 use Rattle.ids.specs.Id.{Id, id, id_meant}
-use Rattle.lldpdu.specs.Extent.{refusal_of_extent, octets_in, port_place, id_in, extent_of}
+use Rattle.lldpdu.specs.Extent.{port_place, id_in, extent_of}
 use Rattle.lldpdu.specs.Outline.{seconds_in}
 use Rattle.text.specs.Part.{text_of, optional_text}
 use Rattle.system.specs.System.{SystemInfo, system_in, unsaid, system_meant}
 use Rattle.reading.specs.Reading.{reading_of}
-use Rattle.walk.specs.declared.Extent.{Extent}
-use Rattle.walk.specs.declared.Extent.TheVariants.{Refused, Octets}
+use Rattle.refusal.specs.Refusal.{number_of}
+use Rattle.refusal.specs.declared.Refusal.{Refusal}
 use Rattle.reading.specs.declared.Link.{Link}
-use Rattle.reading.specs.declared.Link.TheVariants as link-is
 use Rattle.reading.specs.declared.Description.{Description}
 use Rattle.reading.specs.declared.Reading.{Reading}
 
@@ -94,17 +93,17 @@ refused_answer n =
     }
 
 abbrev pub answer_at : Extent → List ℕ → ReaderAnswer
-answer_at (Refused n) s = refused_answer n
-answer_at (Octets e) s = record { refusal = 0; octets = e; htip = htip_of (tlvs_in s); said = said_in s (tlvs_in s) }
+answer_at (Err r) s = refused_answer (number_of r)
+answer_at (Ok e) s = record { refusal = 0; octets = e; htip = htip_of (tlvs_in s); said = said_in s (tlvs_in s) }
 
 unfoldable pub answer_of : List ℕ → ReaderAnswer
 answer_of s = answer_at (extent_of s) s
 
 -- What the code's answer means over the LLDPDU s that was read
 
-abbrev pub link_meant : List ℕ → Link → Option LinkInfo
-link_meant s link-is.Absent = none
-link_meant s (link-is.Table i p a) = some (record { interface = text_of s i; port = text_of s p; addresses = text_of s a })
+abbrev pub link_meant : List ℕ → CodeOption Link → Option LinkInfo
+link_meant s None = none
+link_meant s (Some l) = some (record { interface = text_of s l.interface; port = text_of s l.port; addresses = text_of s l.addresses })
 
 abbrev pub said_by : List ℕ → Description → Said
 said_by s d =
@@ -123,10 +122,11 @@ said_by s d =
       system = system_meant s d.system;
     }
 
-abbrev pub meant : List ℕ → Reading → ReaderAnswer
-meant s r = record { refusal = refusal_of_extent r.extent; octets = octets_in r.extent; htip = r.htip; said = said_by s r.description }
+abbrev pub meant : List ℕ → Result Reading Refusal → ReaderAnswer
+meant s (Err r) = refused_answer (number_of r)
+meant s (Ok r) = record { refusal = 0; octets = r.octets; htip = r.htip; said = said_by s r.description }
 
 -- The contract of the reader: the answer is this one and no other, and it means what the rules say
-pub record Reads (s : List ℕ) (r : Reading) : Type 0 where
+pub record Reads (s : List ℕ) (r : Result Reading Refusal) : Type 0 where
   pub exact : r ≡ reading_of s
   pub means : meant s r ≡ answer_of s

@@ -3,23 +3,13 @@
 use mathlib.Core.Path.{sym, ap, ◌∙◌}
 use Rattle.tally.proofs.Sole.{Sole, SoleAt}
 use Rattle.records.specs.Turns.{Turn}
-use Rattle.records.proofs.less.Kinds as less-kinds
-use Rattle.records.proofs.less.Reads as less
 use Rattle.records.proofs.refused_with.Kinds as refused-with-kinds
 use Rattle.records.proofs.refused_with.Reads as refused-with
-use Rattle.records.proofs.is_heard.Kinds as is-heard-kinds
-use Rattle.records.proofs.is_heard.Reads as is-heard
 use Rattle.records.proofs.settle.Kinds as settle-kinds
 use Rattle.records.proofs.settle.Reads as settle
 
-pub less-sole : Sole 0 less-kinds.ps less-kinds.r less.Post
-less-sole κs a r q x y e f = e ∙ sym f
-
 pub refused-with-sole : Sole 0 refused-with-kinds.ps refused-with-kinds.r refused-with.Post
 refused-with-sole κs a r q x y e f = e ∙ sym f
-
-pub is-heard-sole : Sole 0 is-heard-kinds.ps is-heard-kinds.r is-heard.Post
-is-heard-sole κs a r q x y e f = e ∙ sym f
 
 pub settle-sole : Sole 2 settle-kinds.ps settle-kinds.r settle.Post
 settle-sole κs a r q x y e f = let d = e ∙ sym f in λ i. record { replay = (d i).replay; table = (d i).state.table }

@@ -7,6 +7,7 @@ use mathlib.Core.Bool.{Bool, true, false}
 use native.Mathlib.Omega.{arith}
 use lib.ListN.{length, take, drop, length-append, length-drop}
 use lib.Seq.{take_at}
+use Rattle.std.specs.Prelude.{Option}
 use Rattle.output.specs.Output.{output_at, puts}
 use Rattle.output.proofs.OutputLaws.{puts-fits}
 use Rattle.place.specs.State.{State}
@@ -15,7 +16,6 @@ use Rattle.records.specs.Turns.{Turn, turned, settled}
 use Rattle.replay.specs.Place.{keeps}
 use Rattle.replay.specs.Feeding.{Moment, moment, took, settled_in, fed}
 use Rattle.records.specs.declared.Stage.{Stage}
-use Rattle.records.specs.declared.Before.{Before}
 use Rattle.replay.proofs.FeedingLaws.{took-kept, took-passed, live, fed-part}
 
 -- c at the front of the record buffer
@@ -37,7 +37,7 @@ puts-front c room h =
 unfoldable pub turned_in : Stage → Moment → Moment
 turned_in g m = let x : Turn = turned g m.replay m.room m.state in moment x.replay m.room x.state
 
-module _ (low : Bool) (before : Before) (limit left port : ℕ) (s : State) (g : Stage) where
+module _ (low : Bool) (before : Option ℕ) (limit left port : ℕ) (s : State) (g : Stage) where
   unfoldable pub inside : ℕ → ℕ → List ℕ → Moment
   inside held want b = moment (place_at g low before held want limit left port) b s
 

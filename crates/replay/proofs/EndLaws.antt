@@ -1,23 +1,30 @@
 -- Where the replay of the front of a file stands, one piece more, and the answer at its end: what the contracts of `feed` and `finish` mean for a file.
 -- A place that a replay made is sound, and there the whole file says what the answer is.
-use Prim.Native.Nat.{ℕ, ◌+◌}
+use Prim.Native.Nat.{ℕ, zero, suc, ◌+◌}
 use mathlib.Core.Path.{◌≡◌, refl, sym, ap, ◌∙◌}
 use mathlib.Core.Bool.{Bool, true, false}
 use mathlib.Core.List.{List, [], ◌++◌}
 use native.Mathlib.Omega.{arith}
-use borrow.Author.Tests.{eq-eqb, eqb-true}
-use lib.Dec.{eqb}
+use borrow.Author.Tests.{eq-eqb}
+use lib.Dec.{eqb, ltb}
 use Rattle.tally.specs.Tests.{pick}
 use Rattle.place.specs.State.{State}
-use Rattle.replay.specs.Calls.{refusal_of_replayed, handed_of, Script, script_for, handed_in, answer_from, End, replayed}
-use lib.ListN.{length}
+use Rattle.std.specs.Prelude.{Option, Some, None, Ok, Err}
+use Rattle.capture.specs.Layout.{file_header, layout_of}
+use Rattle.capture.specs.Records.{Records, over, torn, first, records_of}
+use Rattle.capture.specs.declared.Layout.{Layout}
+use Rattle.capture.specs.declared.Layout.TheVariants.{HighFirst, LowFirst, Foreign}
+use Rattle.numbers.specs.Sizes.{ports}
+use Rattle.fitness.specs.Fit.{fit}
+use Rattle.refusal.specs.Refusal.{refusal_of}
+use Rattle.refusal.specs.declared.Refusal.TheVariants.{Unfit}
+use Rattle.replay.specs.Calls.{Replayed, named, handed_of, Script, refusing, call, frame, is_skipped, script_of, script_in, script_of_file, script_for, handed_in, answer_from, End, replayed}
+use lib.ListN.{length, drop}
 use Rattle.replay.specs.Place.{room_octets, beginning, end_at}
 use Rattle.replay.specs.Sound.{sound}
 use Rattle.replay.specs.Feeding.{Moment, moment, fed, finished}
 use Rattle.replay.specs.Promises.{feeding, Stands, Feeds, ending, Listed, Ends}
 use Rattle.records.specs.declared.Replay.{Replay}
-use Rattle.replay.specs.declared.Replayed.{Replayed}
-use Rattle.replay.specs.declared.Replayed.TheVariants.{Handed, Refused}
 use Rattle.replay.proofs.FileLaws.{whole}
 use Rattle.replay.proofs.SoundLaws.{made-ready, fed-more}
 
@@ -43,16 +50,47 @@ module _ {s : State} {port limit : ℕ} where
 pub feeds-exactly : {r : Replay} {room : List ℕ} {s : State} {piece : List ℕ} {m : Moment} → m ≡ feeding (moment r room s) piece → Feeds r room s piece m
 feeds-exactly {r} {room} {s} {piece} e = record { exact = e; goes_on = λ s₀ port limit file c. stands-more c piece e }
 
--- what an answer says of the calls that it was made from
-refusal_is : (x : Script) → refusal_of_replayed (answer_from 0 x) ≡ x.refusal
-refusal_is x = go (eqb x.refusal 0) refl
-  where
-    go : (b : Bool) → eqb x.refusal 0 ≡ b → refusal_of_replayed (pick b (Handed (0 + handed_in x.calls)) (Refused x.refusal)) ≡ x.refusal
-    go true e = sym (eqb-true x.refusal 0 e)
-    go false e = refl
+-- a number that says a refusal, or 0 for none
+abbrev Told : ℕ → Type 0
+Told n = (k : ℕ) → refusal_of (pick (eqb n 0) (Ok k) (Err (named n))) ≡ n
 
-handed-is : (x : Script) → refusal_of_replayed (answer_from 0 x) ≡ 0 → handed_of (answer_from 0 x) ≡ handed_in x.calls
-handed-is x e = let z : 0 + handed_in x.calls ≡ handed_in x.calls = omega arith in rw (eq-eqb x.refusal 0 (sym (refusal_is x) ∙ e)) z
+-- so is each that stands behind the calls of a file
+
+script-told : (l : Records) (before : Option ℕ) (left : ℕ) → Told (script_of l before left).refusal
+unfolding script_of
+script-told l before zero = λ k. refl
+script-told over before (suc n) = λ k. refl
+script-told torn before (suc n) = λ k. refl
+script-told (first c l) before (suc n) =
+    go (is_skipped c) (script_of l (Some c.stamp) (suc n)) (script_of l (Some c.stamp) n) (script-told l (Some c.stamp) (suc n)) (script-told l (Some c.stamp) n)
+  where
+    go : (b : Bool) (u h : Script) → Told u.refusal → Told h.refusal → Told (pick b u (call (frame c.octets) h)).refusal
+    go true u h t v = t
+    go false u h t v = v
+
+layout-told : (y : Layout) (file : List ℕ) (limit : ℕ) → Told (script_in y file limit).refusal
+unfolding script_in
+layout-told HighFirst file limit = script-told (records_of false (drop file_header file) 0) None limit
+layout-told LowFirst file limit = script-told (records_of true (drop file_header file) 0) None limit
+layout-told Foreign file limit = λ k. refl
+
+file-told : (s : State) (port limit : ℕ) (file : List ℕ) → Told (script_for s port limit file).refusal
+unfolding script_for script_of_file
+file-told s port limit file = go (fit s) (ltb port ports) (ltb (length file) file_header)
+  where
+    go : (a b c : Bool) → Told (pick a (pick b (pick c (refusing 11) (script_in (layout_of file) file limit)) (refusing 2)) (refusing 1)).refusal
+    go true true true = λ k. refl
+    go true true false = layout-told (layout_of file) file limit
+    go true false c = λ k. refl
+    go false b c = λ k. refl
+
+-- what an answer says of the calls that it was made from
+module _ (x : Script) (t : Told x.refusal) where
+  refusal_is : refusal_of (answer_from 0 x) ≡ x.refusal
+  refusal_is = t (0 + handed_in x.calls)
+
+  handed-is : refusal_of (answer_from 0 x) ≡ 0 → handed_of (answer_from 0 x) ≡ handed_in x.calls
+  handed-is e = let z : 0 + handed_in x.calls ≡ handed_in x.calls = omega arith in rw (eq-eqb x.refusal 0 (sym refusal_is ∙ e)) z
 
 stands-answer : {r : Replay} {s : State} {port limit : ℕ} {file : List ℕ} {m : Moment} → Listed s → Stands s port limit file m → m.replay ≡ r
     → end_at r ≡ answer_from 0 (script_for s port limit file)
@@ -65,14 +103,14 @@ module _ (r : Replay) {a : Replayed} where
   ends-sound f e =
       record {
         exact = e ∙ sym (rw f);
-        refusal = λ s port limit file m z c d. ap refusal_of_replayed (e ∙ stands-answer z c d) ∙ refusal_is (script_for s port limit file);
+        refusal = λ s port limit file m z c d. ap refusal_of (e ∙ stands-answer z c d) ∙ refusal_is (script_for s port limit file) (file-told s port limit file);
         counts =
             λ s port limit file m z c d n.
             let q = e ∙ stands-answer z c d in
-            ap handed_of q ∙ handed-is (script_for s port limit file) (sym (ap refusal_of_replayed q) ∙ n);
+            ap handed_of q ∙ handed-is (script_for s port limit file) (file-told s port limit file) (sym (ap refusal_of q) ∙ n);
       }
 
-  pub ends-unsound : sound r ≡ false → a ≡ Refused 1 → Ends r a
+  pub ends-unsound : sound r ≡ false → a ≡ Err Unfit → Ends r a
   unfolding ending
   ends-unsound f e =
       record {

@@ -9,7 +9,9 @@ use borrow.Author.Tests.{ne_eqb, eqb-true, eqb-false, leb-true, leb-false, ltb-t
 use lib.ListN.{length, take, drop, length-drop, take-append-drop}
 use lib.Seq.{drop-drop, length-take-le}
 use lib.Dec.{leb, ltb, eqb}
+use Rattle.std.specs.Prelude.{Option, Some, None, Ok, Err}
 use Rattle.tally.specs.Tests.{pick}
+use Rattle.refusal.specs.declared.Refusal.TheVariants.{Torn}
 use Rattle.capture.specs.Layout.{file_header, layout_of, record_header, stamp, captured, original}
 use Rattle.capture.specs.Records.{Records, records_of}
 use Rattle.capture.specs.declared.Layout.{Layout}
@@ -19,24 +21,20 @@ use Rattle.capture.proofs.RecordsLaws.{records-none, records-torn, records-first
 use Rattle.numbers.specs.Sizes.{ports}
 use Rattle.place.specs.State.{State}
 use Rattle.fitness.specs.Fit.{fit}
-use Rattle.freeing.specs.Calls.{state_after, passed}
-use Rattle.freeing.specs.declared.Answer.{Answer}
+use Rattle.freeing.specs.Calls.{Answer, state_after, passed}
 use Rattle.hearing.specs.Frame.{state_told, heard}
 use Rattle.table.proofs.StepLaws.{Kept}
 use Rattle.records.specs.Place.{gap, place_at, refused_with, next, opened, fate_of, is_heard}
 use Rattle.records.specs.Turns.{Turn, turn, met, on_answer, closed, headed_by}
 use Rattle.records.proofs.PlaceLaws.{next-goes}
-use Rattle.replay.specs.Calls.{Script, refusing, call, pass, frame, script_of, script_in, script_of_file, script_for, handed_in, after, ended, end_from, replayed}
+use Rattle.replay.specs.Calls.{named, Script, refusing, call, pass, frame, script_of, script_in, script_of_file, script_for, handed_in, after, ended, end_from, replayed}
 use Rattle.replay.specs.Place.{room_octets, opening, beginning}
 use Rattle.replay.specs.Feeding.{Moment, moment, fed, finished}
 use Rattle.replay.specs.Promises.{Listed}
 use Rattle.records.specs.declared.Fate.{Fate}
 use Rattle.records.specs.declared.Fate.TheVariants.{Heard, Skipped, TooLong}
 use Rattle.records.specs.declared.Stage.TheVariants.{Opening, Heading, Body}
-use Rattle.records.specs.declared.Before.{Before}
-use Rattle.records.specs.declared.Before.TheVariants.{Nothing, Stamp}
 use Rattle.records.specs.declared.Replay.{Replay}
-use Rattle.replay.specs.declared.Replayed.TheVariants.{Handed, Refused}
 use Rattle.replay.proofs.FeedingLaws.{fed-still, positive}
 use Rattle.replay.proofs.TableLaws.{kept_of, passed-done, passed-kept, heard-kept, long-unheard}
 use Rattle.replay.proofs.DueLaws.{fronted, fronted-long, fronted-take, turned_in, inside, fill-kept, fill-passed, part-kept, part-passed}
@@ -62,7 +60,7 @@ closed-met f t r room s k =
 
 -- A record that is all there
 
-module _ (low : Bool) (before : Before) (limit left port : ℕ) (s : State) (k : Kept s) (q : port < ports) (l : List ℕ) where
+module _ (low : Bool) (before : Option ℕ) (limit left port : ℕ) (s : State) (k : Kept s) (q : port < ports) (l : List ℕ) where
   abbrev t : ℕ
   t = stamp low l
 
@@ -80,7 +78,7 @@ module _ (low : Bool) (before : Before) (limit left port : ℕ) (s : State) (k :
   octets = take n (drop record_header l)
 
   unfoldable behind : Turn
-  behind = pick (ltb n o) (turn (next low (Stamp t) limit left port) then) (turn (next low (Stamp t) limit (left - 1) port) (state_told (heard port octets then)))
+  behind = pick (ltb n o) (turn (next low (Some t) limit left port) then) (turn (next low (Some t) limit (left - 1) port) (state_told (heard port octets then)))
 
   abbrev body : ℕ → ℕ → Replay
   body held want = place_at (Body t (fate_of n o)) low before held want limit left port
@@ -106,12 +104,12 @@ module _ (low : Bool) (before : Before) (limit left port : ℕ) (s : State) (k :
     where
       go : (B C : Bool) → ltb room_octets n ≡ C → (is_heard (pick B Skipped (pick C TooLong Heard)) ≡ true → take held room ≡ octets)
           → met (pick B Skipped (pick C TooLong Heard)) t (body held want) room then
-          ≡ pick B (turn (next low (Stamp t) limit left port) then) (turn (next low (Stamp t) limit (left - 1) port) (state_told (heard port octets then)))
+          ≡ pick B (turn (next low (Some t) limit left port) then) (turn (next low (Some t) limit (left - 1) port) (state_told (heard port octets then)))
       go true C y f = refl
       go false true y f =
-          ap (turn (next low (Stamp t) limit (left - 1) port))
+          ap (turn (next low (Some t) limit (left - 1) port))
           (sym (long-unheard then (passed-kept s k (gap before t)) port octets q (omega (arith, all_there h, ltb-true room_octets n y))))
-      go false false y f = ap (λ (x : List ℕ). turn (next low (Stamp t) limit (left - 1) port) (state_told (heard port x then))) (f refl)
+      go false false y f = ap (λ (x : List ℕ). turn (next low (Some t) limit (left - 1) port) (state_told (heard port x then))) (f refl)
 
   module _ (room : List ℕ) (r : length room ≡ room_octets) where
     -- the record buffer with the header in front
@@ -188,18 +186,18 @@ module _ (low : Bool) (before : Before) (limit left port : ℕ) (s : State) (k :
               record { room = g.room; long = g.long; same = header ∙ rw e g.same }
 
     -- the file ends before the record at the front of l does, or has none
-    cut : length l < record_header + n → finished (fed (inside low before limit left port s Heading 0 record_header room) l) ≡ ended (pick (eqb (length l) 0) (Handed (limit - left)) (Refused 12)) s
+    cut : length l < record_header + n → finished (fed (inside low before limit left port s Heading 0 record_header room) l) ≡ ended (pick (eqb (length l) 0) (Ok (limit - left)) (Err Torn)) s
     unfolding headed_by inside beside
     cut h = go (ltb (length l) record_header) refl
       where
         in_body : record_header ≤ length l → length (drop record_header l) < n → (b : Bool) → is_heard (fate_of n o) ≡ b
-            → finished (fed (inside low before limit left port s (Body t (fate_of n o)) 0 n header_room) (drop record_header l)) ≡ ended (Refused 12) s
+            → finished (fed (inside low before limit left port s (Body t (fate_of n o)) 0 n header_room) (drop record_header l)) ≡ ended (Err Torn) s
         in_body j i true e =
             ap finished (part-kept low before limit left port s (Body t (fate_of n o)) header_room (drop record_header l) n i e (omega (arith, heard-fits e, room-long j)))
         in_body j i false e = ap finished (part-passed low before limit left port s (Body t (fate_of n o)) header_room (drop record_header l) n i e)
 
         go : (b : Bool) → ltb (length l) record_header ≡ b
-            → finished (fed (inside low before limit left port s Heading 0 record_header room) l) ≡ ended (pick (eqb (length l) 0) (Handed (limit - left)) (Refused 12)) s
+            → finished (fed (inside low before limit left port s Heading 0 record_header room) l) ≡ ended (pick (eqb (length l) 0) (Ok (limit - left)) (Err Torn)) s
         go true e =
             let i = ltb-true (length l) record_header e in
             ap finished (part-kept low before limit left port s Heading room l record_header i refl (omega arith))
@@ -215,27 +213,27 @@ counted : (h : ℕ) (port : ℕ) (f : List ℕ) (x : Script) (s : State) → end
 unfolding handed_in after
 counted h port f x s =
     let e : suc h + handed_in x.calls ≡ h + suc (handed_in x.calls) = omega arith in
-    ap (λ (j : ℕ). ended (pick (eqb x.refusal 0) (Handed j) (Refused x.refusal)) (after port x.calls (state_told (heard port f s)))) e
+    ap (λ (j : ℕ). ended (pick (eqb x.refusal 0) (Ok j) (Err (named x.refusal))) (after port x.calls (state_told (heard port f s)))) e
 
 waited : (h : ℕ) (port : ℕ) (g : ℕ) (x : Script) (s : State) → end_from h port x (state_after (passed g s)) ≡ end_from h port (call (pass g) x) s
 unfolding handed_in after
 waited h port g x s = refl
 
-none-handed : (h : ℕ) (port : ℕ) (s : State) → ended (Handed h) s ≡ end_from h port (refusing 0) s
+none-handed : (h : ℕ) (port : ℕ) (s : State) → ended (Ok h) s ≡ end_from h port (refusing 0) s
 unfolding handed_in after
-none-handed h port s = let e : h ≡ h + 0 = omega arith in ap (λ (j : ℕ). ended (Handed j) s) e
+none-handed h port s = let e : h ≡ h + 0 = omega arith in ap (λ (j : ℕ). ended (Ok j) s) e
 
-refused-behind : (h : ℕ) (port : ℕ) (s : State) (r : ℕ) → (r ≡ 0 → ⊥) → ended (Refused r) s ≡ end_from h port (refusing r) s
+refused-behind : (h : ℕ) (port : ℕ) (s : State) (r : ℕ) → (r ≡ 0 → ⊥) → ended (Err (named r)) s ≡ end_from h port (refusing r) s
 unfolding after
 refused-behind h port s r e = sym (rw (ne_eqb r 0 e))
 
 -- what is claimed of the records in l
-abbrev Right : Bool → Before → ℕ → ℕ → ℕ → State → List ℕ → List ℕ → Type 0
+abbrev Right : Bool → Option ℕ → ℕ → ℕ → ℕ → State → List ℕ → List ℕ → Type 0
 Right low before limit left port s room l =
     finished (fed (moment (next low before limit left port) room s) l) ≡ end_from (limit - left) port (script_of (records_of low l 0) before left) s
 
 module _ (low : Bool) (limit port : ℕ) (q : port < ports) where
-  module _ (before : Before) (m : ℕ) (i : suc m ≤ limit) (s : State) (k : Kept s) (room : List ℕ) (r : length room ≡ room_octets) (l : List ℕ) where
+  module _ (before : Option ℕ) (m : ℕ) (i : suc m ≤ limit) (s : State) (k : Kept s) (room : List ℕ) (r : length room ≡ room_octets) (l : List ℕ) where
     heads : moment (next low before limit (suc m) port) room s ≡ inside low before limit (suc m) port s Heading 0 record_header room
     unfolding inside
     heads = ap (λ (p : Replay). moment p room s) (sym (next-goes low before limit (suc m) port (λ e. omega arith)))
@@ -248,7 +246,7 @@ module _ (low : Bool) (limit port : ℕ) (q : port < ports) where
         ∙ go (eqb (length l) 0) refl
       where
         go : (b : Bool) → eqb (length l) 0 ≡ b
-            → ended (pick b (Handed (limit - suc m)) (Refused 12)) s ≡ end_from (limit - suc m) port (script_of (records_of low l 0) before (suc m)) s
+            → ended (pick b (Ok (limit - suc m)) (Err Torn)) s ≡ end_from (limit - suc m) port (script_of (records_of low l 0) before (suc m)) s
         go true e = rw (records-none low l (eqb-true (length l) 0 e)) (none-handed (limit - suc m) port s)
         go false e = rw (records-torn low l (positive_of (length l) e) h) (refused-behind (limit - suc m) port s 12 (λ z. omega arith))
 
@@ -271,7 +269,7 @@ module _ (low : Bool) (limit port : ℕ) (q : port < ports) where
       kept' : Kept then'
       kept' = passed-kept s k (gap before t')
 
-      record-right : ((before : Before) (left : ℕ) → left ≤ limit → (s : State) → Kept s → (room : List ℕ) → length room ≡ room_octets → Right low before limit left port s room rest)
+      record-right : ((before : Option ℕ) (left : ℕ) → left ≤ limit → (s : State) → Kept s → (room : List ℕ) → length room ≡ room_octets → Right low before limit left port s room rest)
           → Right low before limit (suc m) port s room l
       unfolding script_of behind beside
       record-right ih =
@@ -281,20 +279,20 @@ module _ (low : Bool) (limit port : ℕ) (q : port < ports) where
           ∙ rw (records-first low l h, all_there low before limit (suc m) port s k q l h) (go (ltb (captured low l) (original low l)) g.room g.long)
         where
           go : (b : Bool) (room' : List ℕ) → length room' ≡ room_octets
-              → finished (fed (beside room' (pick b (turn (next low (Stamp t') limit (suc m) port) then') (turn (next low (Stamp t') limit (suc m - 1) port) (state_told (heard port f' then'))))) rest)
-              ≡ end_from (limit - suc m) port (call (pass (gap before t')) (pick b (script_of more (Stamp t') (suc m)) (call (frame f') (script_of more (Stamp t') m)))) s
-          go true room' r' = ih (Stamp t') (suc m) i then' kept' room' r' ∙ waited (limit - suc m) port (gap before t') (script_of more (Stamp t') (suc m)) s
+              → finished (fed (beside room' (pick b (turn (next low (Some t') limit (suc m) port) then') (turn (next low (Some t') limit (suc m - 1) port) (state_told (heard port f' then'))))) rest)
+              ≡ end_from (limit - suc m) port (call (pass (gap before t')) (pick b (script_of more (Some t') (suc m)) (call (frame f') (script_of more (Some t') m)))) s
+          go true room' r' = ih (Some t') (suc m) i then' kept' room' r' ∙ waited (limit - suc m) port (gap before t') (script_of more (Some t') (suc m)) s
           go false room' r' =
               let e : suc m - 1 ≡ m = omega arith in
               let d : limit - m ≡ suc (limit - suc m) = omega arith in
-              ap (λ (j : ℕ). finished (fed (moment (next low (Stamp t') limit j port) room' (state_told (heard port f' then'))) rest)) e
-              ∙ ih (Stamp t') m (omega arith) (state_told (heard port f' then')) (heard-kept then' kept' port f') room' r'
-              ∙ ap (λ (j : ℕ). end_from j port (script_of more (Stamp t') m) (state_told (heard port f' then'))) d
-              ∙ counted (limit - suc m) port f' (script_of more (Stamp t') m) then'
-              ∙ waited (limit - suc m) port (gap before t') (call (frame f') (script_of more (Stamp t') m)) s
+              ap (λ (j : ℕ). finished (fed (moment (next low (Some t') limit j port) room' (state_told (heard port f' then'))) rest)) e
+              ∙ ih (Some t') m (omega arith) (state_told (heard port f' then')) (heard-kept then' kept' port f') room' r'
+              ∙ ap (λ (j : ℕ). end_from j port (script_of more (Some t') m) (state_told (heard port f' then'))) d
+              ∙ counted (limit - suc m) port f' (script_of more (Some t') m) then'
+              ∙ waited (limit - suc m) port (gap before t') (call (frame f') (script_of more (Some t') m)) s
 
   -- by the number of octets that are left
-  records-right : (w : ℕ) (before : Before) (left : ℕ) → left ≤ limit → (s : State) → Kept s → (room : List ℕ) → length room ≡ room_octets → (l : List ℕ) → length l < w
+  records-right : (w : ℕ) (before : Option ℕ) (left : ℕ) → left ≤ limit → (s : State) → Kept s → (room : List ℕ) → length room ≡ room_octets → (l : List ℕ) → length l < w
       → Right low before limit left port s room l
   unfolding script_of next
   records-right zero before left i s k room r l h = absurd (omega arith)
@@ -304,7 +302,7 @@ module _ (low : Bool) (limit port : ℕ) (q : port < ports) where
   records-right (suc w) before (suc m) i s k room r l h = go (leb (record_header + captured low l) (length l)) refl (λ b left j u k' room' r' x y. records-right w b left j u k' room' r' x y)
     where
       go : (b : Bool) → leb (record_header + captured low l) (length l) ≡ b
-          → ((b : Before) (left : ℕ) → left ≤ limit → (u : State) → Kept u → (room' : List ℕ) → length room' ≡ room_octets → (x : List ℕ) → length x < w → Right low b limit left port u room' x)
+          → ((b : Option ℕ) (left : ℕ) → left ≤ limit → (u : State) → Kept u → (room' : List ℕ) → length room' ≡ room_octets → (x : List ℕ) → length x < w → Right low b limit left port u room' x)
           → Right low before limit (suc m) port s room l
       go true e ih =
           let j = leb-true (record_header + captured low l) (length l) e in
@@ -316,16 +314,16 @@ module _ (low : Bool) (limit port : ℕ) (q : port < ports) where
 module _ (s : State) (k : Kept s) (port limit : ℕ) (q : port < ports) (room : List ℕ) (r : length room ≡ room_octets) (file : List ℕ) where
   -- behind the file header
   layout-right : (y : Layout) (held : ℕ) (room' : List ℕ) → length room' ≡ room_octets
-      → finished (fed (moment (opened y (place_at Opening false Nothing held 0 limit limit port)) room' s) (drop file_header file)) ≡ end_from 0 port (script_in y file limit) s
+      → finished (fed (moment (opened y (place_at Opening false None held 0 limit limit port)) room' s) (drop file_header file)) ≡ end_from 0 port (script_in y file limit) s
   unfolding script_in
   layout-right HighFirst held room' r' =
       let e : limit - limit ≡ 0 = omega arith in
-      records-right false limit port q (suc (length (drop file_header file))) Nothing limit (omega arith) s k room' r' (drop file_header file) (omega arith)
-      ∙ ap (λ (j : ℕ). end_from j port (script_of (records_of false (drop file_header file) 0) Nothing limit) s) e
+      records-right false limit port q (suc (length (drop file_header file))) None limit (omega arith) s k room' r' (drop file_header file) (omega arith)
+      ∙ ap (λ (j : ℕ). end_from j port (script_of (records_of false (drop file_header file) 0) None limit) s) e
   layout-right LowFirst held room' r' =
       let e : limit - limit ≡ 0 = omega arith in
-      records-right true limit port q (suc (length (drop file_header file))) Nothing limit (omega arith) s k room' r' (drop file_header file) (omega arith)
-      ∙ ap (λ (j : ℕ). end_from j port (script_of (records_of true (drop file_header file) 0) Nothing limit) s) e
+      records-right true limit port q (suc (length (drop file_header file))) None limit (omega arith) s k room' r' (drop file_header file) (omega arith)
+      ∙ ap (λ (j : ℕ). end_from j port (script_of (records_of true (drop file_header file) 0) None limit) s) e
   layout-right Foreign held room' r' = ap finished (fed-still (moment (refused_with 11) room' s) (drop file_header file) refl) ∙ refused-behind 0 port s 11 (λ z. omega arith)
 
   opening-right : finished (fed (moment (opening port limit) room s) file) ≡ end_from 0 port (script_of_file file limit) s
@@ -335,14 +333,14 @@ module _ (s : State) (k : Kept s) (port limit : ℕ) (q : port < ports) (room : 
       go : (b : Bool) → ltb (length file) file_header ≡ b
           → finished (fed (moment (opening port limit) room s) file) ≡ end_from 0 port (pick b (refusing 11) (script_in (layout_of file) file limit)) s
       go true e =
-          ap finished (part-kept false Nothing limit limit port s Opening room file file_header (ltb-true (length file) file_header e) refl (omega (arith, ltb-true (length file) file_header e)))
+          ap finished (part-kept false None limit limit port s Opening room file file_header (ltb-true (length file) file_header e) refl (omega (arith, ltb-true (length file) file_header e)))
           ∙ refused-behind 0 port s 11 (λ z. omega arith)
       go false e =
           let c : List ℕ = take file_header file in
           let n : length c ≡ file_header = length-take-le file_header file (ltb-false (length file) file_header e) in
           ap (λ (x : List ℕ). finished (fed (moment (opening port limit) room s) x)) (sym (take-append-drop file_header file))
-          ∙ ap finished (fill-kept false Nothing limit limit port s Opening room c file_header (drop file_header file) refl (omega arith) n (omega arith))
-          ∙ ap (λ (y : Layout). finished (fed (moment (opened y (place_at Opening false Nothing (length c) 0 limit limit port)) (fronted c room) s) (drop file_header file))) (layout-front (fronted c room) file (fronted-take c room n))
+          ∙ ap finished (fill-kept false None limit limit port s Opening room c file_header (drop file_header file) refl (omega arith) n (omega arith))
+          ∙ ap (λ (y : Layout). finished (fed (moment (opened y (place_at Opening false None (length c) 0 limit limit port)) (fronted c room) s) (drop file_header file))) (layout-front (fronted c room) file (fronted-take c room n))
           ∙ layout-right (layout_of file) (length c) (fronted c room) (fronted-long c room (omega arith) ∙ r)
 
 -- whatever the table, the port and the limit are

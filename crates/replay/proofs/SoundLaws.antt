@@ -9,7 +9,9 @@ use native.Mathlib.Omega.{arith}
 use borrow.Author.Tests.{eq-eqb, ne_eqb, eqb-true, eqb-false, lt-ltb, ltb-true, ltb-false, le-leb, leb-true}
 use lib.ListN.{length, set, length-set}
 use lib.Dec.{leb, ltb, eqb}
+use Rattle.std.specs.Prelude.{Option, Some, None, Ok, Err}
 use Rattle.tally.specs.Tests.{pick, both}
+use Rattle.refusal.specs.declared.Refusal.TheVariants.{Unfit}
 use Rattle.output.specs.Output.{output_at}
 use Rattle.capture.specs.Layout.{file_header, layout_of, record_header}
 use Rattle.capture.specs.declared.Layout.{Layout}
@@ -18,10 +20,7 @@ use Rattle.numbers.specs.Sizes.{ports, places}
 use Rattle.place.specs.State.{State, each}
 use Rattle.fitness.specs.Fit.{fit}
 use Rattle.freeing.specs.Changes.{aged}
-use Rattle.freeing.specs.Calls.{answered, state_after, passed}
-use Rattle.freeing.specs.declared.Answer.{Answer}
-use Rattle.freeing.specs.declared.Answer.TheVariants.{Done}
-use Rattle.freeing.specs.declared.Answer.TheVariants as answer-is
+use Rattle.freeing.specs.Calls.{Answer, answered, state_after, passed}
 use Rattle.records.specs.Place.{gap, place_at, refused_with, next, opened, fate_of, is_heard, in_body}
 use Rattle.records.specs.Turns.{turn, met, on_answer, closed, headed_by, turned, settled}
 use Rattle.records.proofs.PlaceLaws.{next-stops, next-goes}
@@ -33,8 +32,6 @@ use Rattle.records.specs.declared.Fate.{Fate}
 use Rattle.records.specs.declared.Fate.TheVariants.{Heard, Skipped, TooLong}
 use Rattle.records.specs.declared.Stage.{Stage}
 use Rattle.records.specs.declared.Stage.TheVariants.{Opening, Heading, Body, Stopped, Refused}
-use Rattle.records.specs.declared.Before.{Before}
-use Rattle.records.specs.declared.Before.TheVariants.{Nothing, Stamp}
 use Rattle.records.specs.declared.Replay.{Replay}
 use Rattle.output.proofs.OutputLaws.{puts_one, more_room}
 use Rattle.replay.proofs.FeedingLaws.{fed-append, took-kept, took-passed, positive}
@@ -77,19 +74,19 @@ facts-file r f = and_both (and_both (lt-ltb r.port ports f.port) (le-leb r.left 
 -- Where a record ends the next begins, or the last frame was handed over
 
 module _ (low : Bool) (limit left port : ℕ) (p : port < ports) where
-  goes-sound : (before : Before) → left ≤ limit → (is_first before ≡ true → left ≡ limit) → (left ≡ 0 → ⊥) → sound (next low before limit left port) ≡ true
+  goes-sound : (before : Option ℕ) → left ≤ limit → (is_first before ≡ true → left ≡ limit) → (left ≡ 0 → ⊥) → sound (next low before limit left port) ≡ true
   unfolding sound
   goes-sound before l w z =
       ap (λ (r : Replay). sound_at r.stage r) (sym (next-goes low before limit left port z))
       ∙ and_both (and_both refl (ap not (ne_eqb left 0 z))) (facts-file (place_at Heading low before 0 record_header limit left port) (record { port = p; left = l; whole = w }))
 
-  stops-sound : (before : Before) → left ≤ limit → (is_first before ≡ true → left ≡ limit) → (is_first before || not (eqb limit 0)) ≡ true → left ≡ 0 → sound (next low before limit left port) ≡ true
+  stops-sound : (before : Option ℕ) → left ≤ limit → (is_first before ≡ true → left ≡ limit) → (is_first before || not (eqb limit 0)) ≡ true → left ≡ 0 → sound (next low before limit left port) ≡ true
   unfolding sound
   stops-sound before l w y z =
       ap (λ (r : Replay). sound_at r.stage r) (sym (next-stops low before limit left port z))
       ∙ and_both (and_both (and_both refl (eq-eqb left 0 z)) y) (facts-file (place_at Stopped low before 0 0 limit left port) (record { port = p; left = l; whole = w }))
 
-  next-sound : (before : Before) → left ≤ limit → (is_first before ≡ true → left ≡ limit) → (is_first before || not (eqb limit 0)) ≡ true → sound (next low before limit left port) ≡ true
+  next-sound : (before : Option ℕ) → left ≤ limit → (is_first before ≡ true → left ≡ limit) → (is_first before || not (eqb limit 0)) ≡ true → sound (next low before limit left port) ≡ true
   next-sound before l w y = go (eqb left 0) refl
     where
       go : (b : Bool) → eqb left 0 ≡ b → sound (next low before limit left port) ≡ true
@@ -102,12 +99,12 @@ refused-sound n e = and_both (and_both (and_both (and_both (and_both (and_both (
 
 -- A record that is all there, and a header
 
-passed-answer : (n : ℕ) (s : State) → ((passed n s).outcome.answer ≡ Done) ⊎ ((passed n s).outcome.answer ≡ answer-is.Refused 1)
+passed-answer : (n : ℕ) (s : State) → ((passed n s).outcome.answer ≡ Ok tt) ⊎ ((passed n s).outcome.answer ≡ Err Unfit)
 unfolding passed
 passed-answer n s = go (fit s)
   where
-    go : (b : Bool) → ((pick b (answered Done (each (aged n) places s)) (answered (answer-is.Refused 1) s)).outcome.answer ≡ Done)
-        ⊎ ((pick b (answered Done (each (aged n) places s)) (answered (answer-is.Refused 1) s)).outcome.answer ≡ answer-is.Refused 1)
+    go : (b : Bool) → ((pick b (answered (Ok tt) (each (aged n) places s)) (answered (Err Unfit) s)).outcome.answer ≡ Ok tt)
+        ⊎ ((pick b (answered (Ok tt) (each (aged n) places s)) (answered (Err Unfit) s)).outcome.answer ≡ Err Unfit)
     go true = inl refl
     go false = inr refl
 
@@ -118,8 +115,8 @@ module _ (r : Replay) (f : Facts r) (z : r.left ≡ 0 → ⊥) where
   met-sound : (g : Fate) (t : ℕ) (room : List ℕ) (s : State) → sound (met g t r room s).replay ≡ true
   met-sound g t room s = go g
     where
-      fewer : (left : ℕ) → left ≤ r.limit → sound (next r.low (Stamp t) r.limit left r.port) ≡ true
-      fewer left l = next-sound r.low r.limit left r.port f.port (Stamp t) l (λ e. let y : ◌≡◌ {A = ℕ} 0 1 = cc in absurd (omega arith)) (ap not (ne_eqb r.limit 0 some-limit))
+      fewer : (left : ℕ) → left ≤ r.limit → sound (next r.low (Some t) r.limit left r.port) ≡ true
+      fewer left l = next-sound r.low r.limit left r.port f.port (Some t) l (λ e. let y : ◌≡◌ {A = ℕ} 0 1 = cc in absurd (omega arith)) (ap not (ne_eqb r.limit 0 some-limit))
 
       go : (g : Fate) → sound (met g t r room s).replay ≡ true
       go Heard = fewer (r.left - 1) (let l = f.left in omega arith)
@@ -159,8 +156,8 @@ headed-sound r f z t n o room s = go (eqb n 0) refl
     go false e = body-sound r f z t n o (eqb-false n 0 e)
 
 opened-sound : (y : Layout) (r : Replay) → Facts r → is_first r.before ≡ true → sound (opened y r) ≡ true
-opened-sound HighFirst r f e = next-sound false r.limit r.left r.port f.port Nothing f.left (λ d. f.whole e) refl
-opened-sound LowFirst r f e = next-sound true r.limit r.left r.port f.port Nothing f.left (λ d. f.whole e) refl
+opened-sound HighFirst r f e = next-sound false r.limit r.left r.port f.port None f.left (λ d. f.whole e) refl
+opened-sound LowFirst r f e = next-sound true r.limit r.left r.port f.port None f.left (λ d. f.whole e) refl
 opened-sound Foreign r f e = refused-sound 11 refl
 
 -- One octet more

@@ -6,7 +6,9 @@ use mathlib.Core.Bool.{Bool, true, false}
 use mathlib.Core.List.{List}
 use native.Mathlib.Omega.{arith}
 use lib.ListN.{length}
-use Rattle.lldpdu.specs.Outline.{refused_outline, outline_of}
+use Rattle.std.specs.Prelude.{Ok, Err}
+use Rattle.refusal.specs.declared.Refusal.TheVariants.{NoFrame}
+use Rattle.lldpdu.specs.Outline.{outline_of}
 use Rattle.reader.specs.Frame.{frame_ok}
 use Rattle.reader.proofs.FrameLaws.{frame-size, on-bad}
 use Rattle.numbers.specs.Sizes.{ports, places}
@@ -14,7 +16,6 @@ use Rattle.place.specs.State.{State, Sized}
 use Rattle.fitness.specs.Fit.{fit}
 use Rattle.fitness.proofs.FitLaws.{fit_parts}
 use Rattle.freeing.specs.Calls.{After, state_after, passed}
-use Rattle.freeing.specs.declared.Answer.TheVariants.{Done}
 use Rattle.hearing.specs.Frame.{state_told, heard}
 use Rattle.hearing.proofs.ReplyLaws.{unread-tells, heard-by}
 use Rattle.table.proofs.StepLaws.{Kept, kept-fit, passed_is, passed-step, frame_step}
@@ -40,7 +41,7 @@ too_long f h = go (frame_ok f) refl
     go false e = refl
 
 module _ (s : State) (k : Kept s) where
-  pub passed-done : (n : ℕ) → (passed n s).outcome.answer ≡ Done
+  pub passed-done : (n : ℕ) → (passed n s).outcome.answer ≡ Ok tt
   passed-done n = ap (λ (a : After). a.outcome.answer) (passed_is s k n)
 
   pub passed-kept : (n : ℕ) → Kept (state_after (passed n s))
@@ -52,4 +53,4 @@ module _ (s : State) (k : Kept s) where
   -- so its octets need not be kept (C5)
   pub long-unheard : (p : ℕ) (f : List ℕ) → p < ports → room_octets < length f → state_told (heard p f s) ≡ s
   long-unheard p f l h =
-      ap state_told (sym (unread-tells f (sym (on-bad (refused_outline 3) outline_of f (too_long f h))) p s refl ∙ heard-by p f s (kept-fit s k) l))
+      ap state_told (sym (unread-tells f (sym (on-bad (Err NoFrame) outline_of f (too_long f h))) p s refl ∙ heard-by p f s (kept-fit s k) l))

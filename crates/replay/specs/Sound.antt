@@ -1,21 +1,19 @@
 -- Which places a replay can have made, by their numbers (C10).
 -- `sound` is what `feed` and `finish` ask of the place that they are handed.
-use Rattle.std.specs.Prelude.{ℕ, ◌-◌, Bool, true, false, not, ◌&&◌, ◌||◌, leb, ltb, eqb}
+use Rattle.std.specs.Prelude.{ℕ, ◌-◌, Bool, true, false, Option, Some, None, not, ◌&&◌, ◌||◌, leb, ltb, eqb}
 use Rattle.tally.specs.Tests.{pick}
 use Rattle.capture.specs.Layout.{file_header, record_header}
 use Rattle.numbers.specs.Sizes.{ports}
 use Rattle.records.specs.declared.Fate.{Fate}
 use Rattle.records.specs.declared.Stage.{Stage}
 use Rattle.records.specs.declared.Stage.TheVariants.{Opening, Heading, Body, Stopped, Refused}
-use Rattle.records.specs.declared.Before.{Before}
-use Rattle.records.specs.declared.Before.TheVariants.{Nothing, Stamp}
 use Rattle.records.specs.declared.Replay.{Replay}
 use Rattle.records.specs.Place.{is_heard}
 use Rattle.replay.specs.Place.{room_octets}
 
-abbrev pub is_first : Before → Bool
-is_first Nothing = true
-is_first (Stamp t) = false
+abbrev pub is_first : Option ℕ → Bool
+is_first None = true
+is_first (Some t) = false
 
 -- the port is there, and of the limit no more is left than there was; before the first record all of it
 abbrev pub in_file : Replay → Bool
@@ -39,10 +37,14 @@ in_record f r =
 abbrev pub is_stopped : Replay → Bool
 is_stopped r = eqb r.held 0 && eqb r.want 0 && eqb r.left 0 && (is_first r.before || not (eqb r.limit 0))
 
--- a refusal is its number alone; 12 is told at the end of a file, and no place has it
+-- 12 is told at the end of a file, and no place has it
+abbrev pub is_refusal : ℕ → Bool
+is_refusal n = eqb n 1 || eqb n 2 || eqb n 11
+
+-- a refusal is its number alone
 abbrev pub is_refused : ℕ → Replay → Bool
 is_refused n r =
-    (eqb n 1 || eqb n 2 || eqb n 11) && not r.low && is_first r.before && eqb r.held 0 && eqb r.want 0 && eqb r.limit 0 && eqb r.left 0 && eqb r.port 0
+    is_refusal n && not r.low && is_first r.before && eqb r.held 0 && eqb r.want 0 && eqb r.limit 0 && eqb r.left 0 && eqb r.port 0
 
 abbrev pub sound_at : Stage → Replay → Bool
 sound_at Opening r = in_opening r && in_file r

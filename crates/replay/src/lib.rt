@@ -10,11 +10,12 @@ ghost use Rattle.replay.specs.Promises.{Feeds, Ends};
 
 mod sound;
 
-use fitness::{NO_PORT, UNFIT, is_fit};
+use fitness::is_fit;
 use numbers::{PORTS, Table};
 use output::put_all;
-pub use records::{Before, Fate, Fed, Replay, Stage};
-use records::{NO_CAPTURE, is_heard, less, refused_with, settle};
+pub use records::{Fate, Fed, Replay, Stage};
+use records::{refused_with, settle};
+pub use refusal::Refusal;
 use sound::is_sound;
 
 // The octets of the record buffer: those of the longest frame (F1). Either header is shorter.
@@ -23,36 +24,27 @@ pub const ROOM: usize = 1514;
 // The octets of the file header (C1).
 pub(crate) const FILE_HEADER: u32 = 24;
 
-// A file that ends inside a record (R12).
-const TORN: u8 = 12;
-
-// How many frames were handed over (C6), or the refusal.
-#[derive(Clone, Copy)]
-pub enum Replayed {
-    Handed(usize),
-    Refused(u8),
-}
-
 // Before the file: a table, the port that its frames come on, and the number of frames behind which the replay stops.
+#[tactic(auto, unfolding(crate::specs::Place::beginning))]
 pub fn begin(t: Table, buffer: &[u8], port: usize, limit: usize) -> Replay
     ensures { result ≡ beginning (state t buffer.now) port limit }
 {
-    if is_fit(t, buffer) {
-        if port < PORTS {
-            return Replay {
-                stage: Stage::Opening,
-                low: false,
-                before: Before::Nothing,
-                held: 0,
-                want: FILE_HEADER,
-                limit: limit,
-                left: limit,
-                port: port,
-            };
-        }
-        return refused_with(NO_PORT);
+    if !is_fit(t, buffer) {
+        return refused_with(u8::from(Refusal::Unfit));
     }
-    refused_with(UNFIT)
+    if port >= PORTS {
+        return refused_with(u8::from(Refusal::NoPort));
+    }
+    Replay {
+        stage: Stage::Opening,
+        low: false,
+        before: None,
+        held: 0,
+        want: FILE_HEADER,
+        limit,
+        left: limit,
+        port,
+    }
 }
 
 // Whether a replay that stands here would look at more of the file.
@@ -66,11 +58,9 @@ fn is_kept(s: Stage) -> bool
     ensures { result ≡ keeps s }
 {
     match s {
-        Stage::Opening => true,
-        Stage::Heading => true,
-        Stage::Body(_, fate) => is_heard(fate),
-        Stage::Stopped => false,
-        Stage::Refused(_) => false,
+        Stage::Opening | Stage::Heading => true,
+        Stage::Body(_, fate) => matches!(fate, Fate::Heard),
+        Stage::Stopped | Stage::Refused(_) => false,
     }
 }
 
@@ -79,27 +69,16 @@ fn take_in(r: Replay, room: &mut [u8], part: &[u8]) -> Replay
     requires { length part.now ≤ r.want }
     ensures { Taken r room.old part.now result room.new }
 {
-    let n = part.len() as u32;
-    let stage = r.stage;
     let mut q = r;
-    q.want = r.want - n;
-    if is_kept(stage) {
+    q.want = r.want - part.len() as u32;
+    if is_kept(r.stage) {
         q.held = put_all(room, r.held, part);
-        return q;
     }
     q
 }
 
-fn least(a: usize, b: usize) -> usize
-    ensures { (result ≤ a) × ((result ≤ b) × (0 < a → 0 < b → 0 < result)) }
-{
-    if a < b {
-        return a;
-    }
-    b
-}
-
 // A piece is taken in by parts, each of which ends at the latest where what is due does.
+// By an index: no iterator cuts parts whose length each part before decides.
 fn feed_parts(r: Replay, t: Table, buffer: &mut [u8], room: &mut [u8], piece: &[u8]) -> Fed
     ensures { moment result.replay room.new (state result.table buffer.new) ≡ fed (moment r room.old (state t buffer.old)) piece.now }
 {
@@ -109,15 +88,13 @@ fn feed_parts(r: Replay, t: Table, buffer: &mut [u8], room: &mut [u8], piece: &[
     };
     let mut at = 0;
     while at < piece.len() {
-        let place = q.replay;
-        let due = place.want as usize;
+        let due = q.replay.want as usize;
         if due == 0 {
             return q;
         }
-        let end = at + least(due, piece.len() - at);
-        let held = take_in(place, room, &piece[at..end]);
-        let table = q.table;
-        q = settle(held, table, buffer, room);
+        let end = at + due.min(piece.len() - at);
+        let held = take_in(q.replay, room, &piece[at..end]);
+        q = settle(held, q.table, buffer, room);
         at = end;
     }
     q
@@ -127,47 +104,35 @@ fn feed_parts(r: Replay, t: Table, buffer: &mut [u8], room: &mut [u8], piece: &[
 pub fn feed(r: Replay, t: Table, buffer: &mut [u8], room: &mut [u8], piece: &[u8]) -> Fed
     ensures { Feeds r room.old (state t buffer.old) piece.now (moment result.replay room.new (state result.table buffer.new)) }
 {
-    if room.len() != ROOM {
+    if room.len() != ROOM || !is_sound(r) {
         return Fed {
-            replay: refused_with(UNFIT),
+            replay: refused_with(u8::from(Refusal::Unfit)),
             table: t,
         };
     }
-    if is_sound(r) {
-        return feed_parts(r, t, buffer, room, piece);
-    }
-    Fed {
-        replay: refused_with(UNFIT),
-        table: t,
-    }
+    feed_parts(r, t, buffer, room, piece)
 }
 
-// What a replay answers where the file is over at its place, which some replay made.
-fn end_at(r: Replay) -> Replayed
+// What a replay answers where the file is over at its place, which some replay made: a number of frames handed over (C6), or the refusal.
+fn end_at(r: Replay) -> Result<usize, Refusal>
     ensures { result ≡ end_at r }
 {
-    let stage = r.stage;
-    match stage {
-        Stage::Opening => Replayed::Refused(NO_CAPTURE),
-        Stage::Heading => {
-            if r.held == 0 {
-                Replayed::Handed(less(r.limit, r.left))
-            } else {
-                Replayed::Refused(TORN)
-            }
-        }
-        Stage::Body(_, _) => Replayed::Refused(TORN),
-        Stage::Stopped => Replayed::Handed(less(r.limit, r.left)),
-        Stage::Refused(n) => Replayed::Refused(n),
+    let handed = r.limit.saturating_sub(r.left);
+    match r.stage {
+        Stage::Opening => Err(Refusal::NoCapture),
+        Stage::Heading if r.held == 0 => Ok(handed),
+        Stage::Heading | Stage::Body(_, _) => Err(Refusal::Torn),
+        Stage::Stopped => Ok(handed),
+        Stage::Refused(n) => Err(Refusal::try_from(n).unwrap_or(Refusal::Unfit)),
     }
 }
 
 // The file is over.
-pub fn finish(r: Replay) -> Replayed
+pub fn finish(r: Replay) -> Result<usize, Refusal>
     ensures { Ends r result }
 {
-    if is_sound(r) {
-        return end_at(r);
+    if !is_sound(r) {
+        return Err(Refusal::Unfit);
     }
-    Replayed::Refused(UNFIT)
+    end_at(r)
 }

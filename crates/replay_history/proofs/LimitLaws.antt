@@ -8,6 +8,7 @@ use mathlib.Core.Bool.{Bool, true, false}
 use native.Mathlib.Omega.{arith}
 use lib.ListN.{length, drop}
 use lib.Dec.{ltb}
+use Rattle.std.specs.Prelude.{Option, Some, None}
 use Rattle.tally.specs.Tests.{pick}
 use Rattle.capture.specs.Layout.{file_header, layout_of}
 use Rattle.capture.specs.Records.{Records, over, torn, first, records_of}
@@ -21,8 +22,6 @@ use Rattle.replay.specs.Calls.{pass, frame, Script, refusing, call, is_skipped, 
 use Rattle.replay.specs.Place.{beginning}
 use Rattle.replay.specs.Promises.{Stands, Listed}
 use Rattle.replay.specs.Feeding.{Moment, moment, fed, finished}
-use Rattle.records.specs.declared.Before.{Before}
-use Rattle.records.specs.declared.Before.TheVariants.{Nothing, Stamp}
 use Rattle.replay.proofs.FeedingLaws.{fed-append, fed-still}
 use Rattle.replay.proofs.FileLaws.{whole}
 
@@ -31,15 +30,15 @@ record Limited (n : ℕ) (x : Script) : Type 0 where
   most : handed_in x.calls ≤ n
   refusals : (x.refusal ≡ 0) ⊎ (x.refusal ≡ 12)
 
-limited : (l : Records) (before : Before) (n : ℕ) → Limited n (script_of l before n)
+limited : (l : Records) (before : Option ℕ) (n : ℕ) → Limited n (script_of l before n)
 unfolding script_of handed_in
 limited l before zero = record { most = omega arith; refusals = inl refl }
 limited over before (suc n) = record { most = omega arith; refusals = inl refl }
 limited torn before (suc n) = record { most = omega arith; refusals = inr refl }
-limited (first c l) before (suc n) = go (is_skipped c) (limited l (Stamp c.stamp) (suc n)) (limited l (Stamp c.stamp) n)
+limited (first c l) before (suc n) = go (is_skipped c) (limited l (Some c.stamp) (suc n)) (limited l (Some c.stamp) n)
   where
-    go : (b : Bool) → Limited (suc n) (script_of l (Stamp c.stamp) (suc n)) → Limited n (script_of l (Stamp c.stamp) n)
-        → Limited (suc n) (call (pass (gap before c.stamp)) (pick b (script_of l (Stamp c.stamp) (suc n)) (call (frame c.octets) (script_of l (Stamp c.stamp) n))))
+    go : (b : Bool) → Limited (suc n) (script_of l (Some c.stamp) (suc n)) → Limited n (script_of l (Some c.stamp) n)
+        → Limited (suc n) (call (pass (gap before c.stamp)) (pick b (script_of l (Some c.stamp) (suc n)) (call (frame c.octets) (script_of l (Some c.stamp) n))))
     go true p q = record { most = p.most; refusals = p.refusals }
     go false p q = record { most = let h = q.most in omega arith; refusals = q.refusals }
 
@@ -49,8 +48,8 @@ unfolding script_for script_of_file script_in handed_in
 at_most s port limit file = go (fit s) (ltb port ports) (ltb (length file) file_header)
   where
     by_layout : (y : Layout) → handed_in (script_in y file limit).calls ≤ limit
-    by_layout HighFirst = (limited (records_of false (drop file_header file) 0) Nothing limit).most
-    by_layout LowFirst = (limited (records_of true (drop file_header file) 0) Nothing limit).most
+    by_layout HighFirst = (limited (records_of false (drop file_header file) 0) None limit).most
+    by_layout LowFirst = (limited (records_of true (drop file_header file) 0) None limit).most
     by_layout Foreign = omega arith
 
     go : (a b c : Bool) → handed_in (pick a (pick b (pick c (refusing 11) (script_in (layout_of file) file limit)) (refusing 2)) (refusing 1)).calls ≤ limit
@@ -81,8 +80,8 @@ fit-not-refused-1 s port limit file e d = go (ltb port ports) (ltb (length file)
     ]
 
     by_layout : (y : Layout) → (script_in y file limit).refusal ≡ 1 → ⊥
-    by_layout HighFirst q = of-records (limited (records_of false (drop file_header file) 0) Nothing limit) q
-    by_layout LowFirst q = of-records (limited (records_of true (drop file_header file) 0) Nothing limit) q
+    by_layout HighFirst q = of-records (limited (records_of false (drop file_header file) 0) None limit) q
+    by_layout LowFirst q = of-records (limited (records_of true (drop file_header file) 0) None limit) q
     by_layout Foreign q = omega arith
 
     go : (b c : Bool) → (pick b (pick c (refusing 11) (script_in (layout_of file) file limit)) (refusing 2)).refusal ≡ 1 → ⊥
@@ -103,8 +102,8 @@ refused-untouched s port limit file = go (fit s) (ltb port ports) (ltb (length f
     ]
 
     by_layout : (y : Layout) → (script_in y file limit).refusal ≢ 0 → (script_in y file limit).refusal ≢ 12 → after port (script_in y file limit).calls s ≡ s
-    by_layout HighFirst = of-records (script_of (records_of false (drop file_header file) 0) Nothing limit) (limited (records_of false (drop file_header file) 0) Nothing limit)
-    by_layout LowFirst = of-records (script_of (records_of true (drop file_header file) 0) Nothing limit) (limited (records_of true (drop file_header file) 0) Nothing limit)
+    by_layout HighFirst = of-records (script_of (records_of false (drop file_header file) 0) None limit) (limited (records_of false (drop file_header file) 0) None limit)
+    by_layout LowFirst = of-records (script_of (records_of true (drop file_header file) 0) None limit) (limited (records_of true (drop file_header file) 0) None limit)
     by_layout Foreign = λ a b. refl
 
     go : (a b c : Bool) → (let x = pick a (pick b (pick c (refusing 11) (script_in (layout_of file) file limit)) (refusing 2)) (refusing 1) in

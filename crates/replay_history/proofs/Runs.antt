@@ -15,7 +15,8 @@ use Rattle.history.specs.Demand.{Demand3}
 use Rattle.history.specs.Calls.{Called}
 use Rattle.history.proofs.CallsLaws.{reached, demand3-table}
 use Rattle.history.proofs.Runs.{Ran, ran-called}
-use Rattle.replay.specs.Calls.{refusal_of_replayed, handed_of, script_for, handed_in, End, replayed}
+use Rattle.refusal.specs.Refusal.{refusal_of}
+use Rattle.replay.specs.Calls.{handed_of, script_for, handed_in, End, replayed}
 use Rattle.replay.specs.Place.{room_octets, beginning, end_at}
 use Rattle.replay.specs.Sound.{sound}
 use Rattle.replay.specs.Feeding.{Moment, moment, finished}
@@ -63,10 +64,10 @@ module _ {s : State} {port limit : ℕ} {file : List ℕ} {m : Moment} (z : List
     pieces-answer = post.exact ∙ rw (sym (ap sound e) ∙ stands-sound (stands p)) (ap end_at (sym e) ∙ ap (λ (y : End). y.answer) pieces)
 
     -- the refusal, and "how many it handed over, which must be the number that the file and that limit give"
-    pub pieces-refusal : refusal_of_replayed r ≡ (script_for s port limit file).refusal
+    pub pieces-refusal : refusal_of r ≡ (script_for s port limit file).refusal
     pieces-refusal = post.refusal s port limit file m z (stands p) e
 
-    pub pieces-count : refusal_of_replayed r ≡ 0 → handed_of r ≡ handed_in (script_for s port limit file).calls
+    pub pieces-count : refusal_of r ≡ 0 → handed_of r ≡ handed_in (script_for s port limit file).calls
     pieces-count = post.counts s port limit file m z (stands p) e
 
 -- A replay into a table that calls led to, from a Start on, leads on from there: so calls and replays may follow one another

@@ -1,4 +1,4 @@
--- Nothing behind the last frame is looked at (C6): a file whose front hands over as many frames as the limit says makes the calls of that front.
+-- None behind the last frame is looked at (C6): a file whose front hands over as many frames as the limit says makes the calls of that front.
 -- Over the definitions alone; a record at the front of a file is the same whatever follows it.
 use Prim.Native.Nat.{ℕ, zero, suc, ◌+◌, ◌<◌, ◌≤◌}
 use mathlib.Core.Path.{◌≡◌, refl, sym, ap, ◌∙◌}
@@ -9,6 +9,7 @@ use borrow.Author.Tests.{leb-true, leb-false, ltb-false, le-ltb}
 use lib.ListN.{length, take, drop, length-append, length-drop}
 use lib.Seq.{take-append-le, drop-append-le}
 use lib.Dec.{leb, ltb}
+use Rattle.std.specs.Prelude.{Option, Some, None}
 use Rattle.tally.specs.Tests.{pick}
 use Rattle.capture.specs.Layout.{file_header, layout_of, record_header, captured}
 use Rattle.capture.specs.Records.{Captured, Records, first, front_of, records_of}
@@ -20,8 +21,6 @@ use Rattle.numbers.specs.Sizes.{ports}
 use Rattle.place.specs.State.{State}
 use Rattle.fitness.specs.Fit.{fit}
 use Rattle.records.specs.Place.{gap}
-use Rattle.records.specs.declared.Before.{Before}
-use Rattle.records.specs.declared.Before.TheVariants.{Nothing, Stamp}
 use Rattle.replay.specs.Calls.{pass, frame, Script, refusing, call, is_skipped, script_of, script_in, script_of_file, script_for, handed_in}
 
 -- the record at the front of l is that at the front of l ++ rest
@@ -45,7 +44,7 @@ module _ (low : Bool) (l rest : List ℕ) (h : record_header + captured low l �
       (records_of low (drop (record_header + captured-same i) (l ++ rest)) 0))
       ∙ ap (λ (x : List ℕ). first (front_of low l) (records_of low x 0)) (drop-append-le (record_header + captured low l) l rest h)
 
-same-script : (low : Bool) (rest : List ℕ) (w : ℕ) (l : List ℕ) → length l < w → (before : Before) (n : ℕ) → (script_of (records_of low l 0) before n).refusal ≡ 0
+same-script : (low : Bool) (rest : List ℕ) (w : ℕ) (l : List ℕ) → length l < w → (before : Option ℕ) (n : ℕ) → (script_of (records_of low l 0) before n).refusal ≡ 0
     → handed_in (script_of (records_of low l 0) before n).calls ≡ n → script_of (records_of low (l ++ rest) 0) before n ≡ script_of (records_of low l 0) before n
 unfolding script_of handed_in
 same-script low rest zero l y before n e d = absurd (omega arith)
@@ -62,22 +61,22 @@ same-script low rest (suc w) l y before (suc n) e d = go (leb (record_header + c
     c = front_of low l
 
     by-skip : (B : Bool)
-        → ((script_of more (Stamp c.stamp) (suc n)).refusal ≡ 0 → handed_in (script_of more (Stamp c.stamp) (suc n)).calls ≡ suc n → script_of longer (Stamp c.stamp) (suc n) ≡ script_of more (Stamp c.stamp) (suc n))
-        → ((script_of more (Stamp c.stamp) n).refusal ≡ 0 → handed_in (script_of more (Stamp c.stamp) n).calls ≡ n → script_of longer (Stamp c.stamp) n ≡ script_of more (Stamp c.stamp) n)
-        → (let x = call (pass (gap before c.stamp)) (pick B (script_of more (Stamp c.stamp) (suc n)) (call (frame c.octets) (script_of more (Stamp c.stamp) n))) in
+        → ((script_of more (Some c.stamp) (suc n)).refusal ≡ 0 → handed_in (script_of more (Some c.stamp) (suc n)).calls ≡ suc n → script_of longer (Some c.stamp) (suc n) ≡ script_of more (Some c.stamp) (suc n))
+        → ((script_of more (Some c.stamp) n).refusal ≡ 0 → handed_in (script_of more (Some c.stamp) n).calls ≡ n → script_of longer (Some c.stamp) n ≡ script_of more (Some c.stamp) n)
+        → (let x = call (pass (gap before c.stamp)) (pick B (script_of more (Some c.stamp) (suc n)) (call (frame c.octets) (script_of more (Some c.stamp) n))) in
         x.refusal ≡ 0 → handed_in x.calls ≡ suc n
-        → call (pass (gap before c.stamp)) (pick B (script_of longer (Stamp c.stamp) (suc n)) (call (frame c.octets) (script_of longer (Stamp c.stamp) n))) ≡ x)
+        → call (pass (gap before c.stamp)) (pick B (script_of longer (Some c.stamp) (suc n)) (call (frame c.octets) (script_of longer (Some c.stamp) n))) ≡ x)
     by-skip true p q = λ a b. ap (call (pass (gap before c.stamp))) (p a b)
     by-skip false p q = λ a b. ap (λ (z : Script). call (pass (gap before c.stamp)) (call (frame c.octets) z)) (q a (omega (arith, b)))
 
     go : (b : Bool) → leb (record_header + captured low l) (length l) ≡ b
-        → ((x : List ℕ) → length x < w → (b : Before) (m : ℕ) → (script_of (records_of low x 0) b m).refusal ≡ 0 → handed_in (script_of (records_of low x 0) b m).calls ≡ m
+        → ((x : List ℕ) → length x < w → (b : Option ℕ) (m : ℕ) → (script_of (records_of low x 0) b m).refusal ≡ 0 → handed_in (script_of (records_of low x 0) b m).calls ≡ m
         → script_of (records_of low (x ++ rest) 0) b m ≡ script_of (records_of low x 0) b m)
         → script_of (records_of low (l ++ rest) 0) before (suc n) ≡ script_of (records_of low l 0) before (suc n)
     go true g ih =
         let h = leb-true (record_header + captured low l) (length l) g in
         let f = records-first low l h in
-        let i = ih (drop (record_header + captured low l) l) (omega (arith, length-drop (record_header + captured low l) l)) (Stamp c.stamp) in
+        let i = ih (drop (record_header + captured low l) l) (omega (arith, length-drop (record_header + captured low l) l)) (Some c.stamp) in
         ap (λ (x : Records). script_of x before (suc n)) (first-same low l rest h)
         ∙ by-skip (is_skipped c) (i (suc n)) (i n) (sym (ap (λ (x : Records). (script_of x before (suc n)).refusal) f) ∙ e) (sym (ap (λ (x : Records). handed_in (script_of x before (suc n)).calls) f) ∙ d)
         ∙ sym (ap (λ (x : Records). script_of x before (suc n)) f)
@@ -94,8 +93,8 @@ unfolding script_for script_of_file script_in
 limit-reached s port limit front rest = go (fit s) (ltb port ports) (ltb (length front) file_header) refl
   where
     in-layout : (y : Layout) → file_header ≤ length front → (script_in y front limit).refusal ≡ 0 → handed_in (script_in y front limit).calls ≡ limit → script_in y (front ++ rest) limit ≡ script_in y front limit
-    in-layout HighFirst h e d = ap (λ (x : List ℕ). script_of (records_of false x 0) Nothing limit) (drop-append-le file_header front rest h) ∙ same-script false rest (suc (length (drop file_header front))) (drop file_header front) (omega arith) Nothing limit e d
-    in-layout LowFirst h e d = ap (λ (x : List ℕ). script_of (records_of true x 0) Nothing limit) (drop-append-le file_header front rest h) ∙ same-script true rest (suc (length (drop file_header front))) (drop file_header front) (omega arith) Nothing limit e d
+    in-layout HighFirst h e d = ap (λ (x : List ℕ). script_of (records_of false x 0) None limit) (drop-append-le file_header front rest h) ∙ same-script false rest (suc (length (drop file_header front))) (drop file_header front) (omega arith) None limit e d
+    in-layout LowFirst h e d = ap (λ (x : List ℕ). script_of (records_of true x 0) None limit) (drop-append-le file_header front rest h) ∙ same-script true rest (suc (length (drop file_header front))) (drop file_header front) (omega arith) None limit e d
     in-layout Foreign h e d = refl
 
     go : (a b c : Bool) → ltb (length front) file_header ≡ c → (let x = pick a (pick b (pick c (refusing 11) (script_in (layout_of front) front limit)) (refusing 2)) (refusing 1) in

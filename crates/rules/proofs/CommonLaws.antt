@@ -8,16 +8,17 @@ use mathlib.Core.Option.{Option, none, some}
 use native.Mathlib.Omega.{arith}
 use borrow.Author.Tests.{eqb-true, eqb-false, eq-eqb, ne_eqb, ltb-true, ltb-false}
 use lib.Dec.{ltb, eqb}
+use Rattle.std.specs.Prelude.{Ok, Err}
 use Rattle.tally.specs.Tests.{pick}
+use Rattle.refusal.specs.declared.Refusal.TheVariants.{PortFull, CommonTaken, ChassisLoud}
 use Rattle.ids.specs.Id.{Id}
 use Rattle.rules.specs.Identity.{Ident}
 use Rattle.rules.specs.Events.{Announcement, Heard, unread, says, whose}
 use Rattle.rules.specs.Shares.{sure, most, per_chassis, common_for, beyond, share, port_is, chassis_is, room}
 use Rattle.rules.specs.declared.Room.{Room}
 use Rattle.rules.specs.declared.Room.TheVariants.{Enough, Loud, Full, Taken}
-use Rattle.rules.specs.Answers.{answer_to}
-use Rattle.rules.specs.declared.Reply.{Reply}
-use Rattle.rules.specs.declared.Reply.TheVariants.{Recorded, Refreshed, Gone, UnknownGoodbye, Refused}
+use Rattle.rules.specs.Answers.{Answered, answer_to}
+use Rattle.rules.specs.declared.Reply.TheVariants.{Recorded, Refreshed, Gone, UnknownGoodbye}
 use Rattle.rules.specs.Model.{Rec, Places, is_some, lookup, hits, tally, holds_in, holds_of, recorded, reply, after_frame}
 use Rattle.rules.specs.Fit.{InPlace, FitPlaces}
 use Rattle.rules.specs.EitherOrder.{Asking, Leaving, Says, AsksCommon, FreesCommon}
@@ -88,7 +89,7 @@ is_none_left n t = eqb (beyond n (holds_in t)) (common_for n)
 
 module _ (n : ℕ) (t : Places) (f : FitPlaces n t) (p : ℕ) where
   -- where they decide
-  pub common-reply : (x : Heard) → AsksCommon n t p x → reply n p x t ≡ pick (is_none_left n t) (Refused 8) Recorded
+  pub common-reply : (x : Heard) → AsksCommon n t p x → reply n p x t ≡ pick (is_none_left n t) (Err CommonTaken) (Ok Recorded)
   common-reply (unread k) c = absurd c.asks
   common-reply (says a) c = go (is_none_left n t) refl
     where
@@ -96,7 +97,7 @@ module _ (n : ℕ) (t : Places) (f : FitPlaces n t) (p : ℕ) where
       at rm e =
           by-room n t p a c.asks.port false false rm (ne_eqb a.seconds 0 c.asks.lives) (ap is_some c.asks.unknown) (by-share n t p a ∙ e)
 
-      go : (b : Bool) → is_none_left n t ≡ b → reply n p (says a) t ≡ pick b (Refused 8) Recorded
+      go : (b : Bool) → is_none_left n t ≡ b → reply n p (says a) t ≡ pick b (Err CommonTaken) (Ok Recorded)
       go true e =
           at Taken
           (share-taken n (holds_in t) (own n t p a) p (omega (arith, c.asks.quiet)) (omega (arith, c.two)) (omega (arith, c.five)) (eqb-true (beyond n (holds_in t)) (common_for n) e))
@@ -173,7 +174,7 @@ module _ (n : ℕ) (t : Places) (f : FitPlaces n t) (q : ℕ) (b : Announcement)
   beside = beyond-but n q (holds_in t') (holds_in t) l (λ k d. frame-tally n t f q b (port_is k) (ne_eqb q k (λ e. d (sym e))))
 
   -- and that moves with what w has
-  held_then : (r : Reply) → reply n q (says b) t ≡ r
+  held_then : (r : Answered) → reply n q (says b) t ≡ r
       → holds_in t' q + hits (port_is q) (lookup w t) ≡ holds_in t q + hits (port_is q) (after r (recorded q b) (lookup w t))
   held_then r e = rw e at (frame-count n t f q b (port_is q))
 
@@ -185,7 +186,7 @@ module _ (n : ℕ) (t : Places) (f : FitPlaces n t) (q : ℕ) (b : Announcement)
   as_many e = stays (omega (arith, beside, e))
 
   -- the answer keeps what w has
-  kept : (r : Reply) → reply n q (says b) t ≡ r → after r (recorded q b) (lookup w t) ≡ lookup w t → Moves n t q (says b)
+  kept : (r : Answered) → reply n q (says b) t ≡ r → after r (recorded q b) (lookup w t) ≡ lookup w t → Moves n t q (says b)
   kept r e d = as_many (let h = held_then r e in omega (arith, rw d at h))
 
   -- a goodbye
@@ -193,7 +194,7 @@ module _ (n : ℕ) (t : Places) (f : FitPlaces n t) (q : ℕ) (b : Announcement)
   one_less h =
       omega (
         arith,
-        held_then Gone (by-room n t q b l true true (there n t q b) (eq-eqb b.seconds 0 h.goodbye) h.known refl),
+        held_then (Ok Gone) (by-room n t q b l true true (there n t q b) (eq-eqb b.seconds 0 h.goodbye) h.known refl),
         one-here (lookup w t) h.known (lookup-of w t),
       )
 
@@ -214,20 +215,20 @@ module _ (n : ℕ) (t : Places) (f : FitPlaces n t) (q : ℕ) (b : Announcement)
       as_many
       (omega (
         arith,
-        held_then Refreshed (by-room n t q b l false true (there n t q b) e i refl),
+        held_then (Ok Refreshed) (by-room n t q b l false true (there n t q b) e i refl),
         one-here (lookup w t) i (lookup-of w t),
         one-here (some (recorded q b)) refl refl,
       ))
 
   -- a new one
-  one_more : lookup w t ≡ none → reply n q (says b) t ≡ Recorded → holds_in t' q ≡ holds_in t q + 1
+  one_more : lookup w t ≡ none → reply n q (says b) t ≡ Ok Recorded → holds_in t' q ≡ holds_in t q + 1
   one_more e r =
-      let h = held_then Recorded r in
+      let h = held_then (Ok Recorded) r in
       omega (arith, rw e at h, one-here (some (recorded q b)) refl refl)
 
   takes_one : AsksCommon n t q (says b) → beyond n (holds_in t) ≢ common_for n → beyond n (holds_in t') ≡ beyond n (holds_in t) + 1
   takes_one c m =
-      let r : reply n q (says b) t ≡ Recorded = common-reply n t f q (says b) c ∙ rw (ne_eqb (beyond n (holds_in t)) (common_for n) m) refl in
+      let r : reply n q (says b) t ≡ Ok Recorded = common-reply n t f q (says b) c ∙ rw (ne_eqb (beyond n (holds_in t)) (common_for n) m) refl in
       omega (arith, beside, one_more c.asks.unknown r, c.two)
 
   enters : eqb b.seconds 0 ≡ false → is_some (lookup w t) ≡ false → there n t q b ≡ Enough → Moves n t q (says b)
@@ -252,9 +253,9 @@ module _ (n : ℕ) (t : Places) (f : FitPlaces n t) (q : ℕ) (b : Announcement)
 
   new-one : eqb b.seconds 0 ≡ false → is_some (lookup w t) ≡ false → (rm : Room) → there n t q b ≡ rm → Moves n t q (says b)
   new-one e i Enough r = enters e i r
-  new-one e i Loud r = kept (Refused 13) (by-room n t q b l false false Loud e i r) refl
-  new-one e i Full r = kept (Refused 7) (by-room n t q b l false false Full e i r) refl
-  new-one e i Taken r = kept (Refused 8) (by-room n t q b l false false Taken e i r) refl
+  new-one e i Loud r = kept (Err ChassisLoud) (by-room n t q b l false false Loud e i r) refl
+  new-one e i Full r = kept (Err PortFull) (by-room n t q b l false false Full e i r) refl
+  new-one e i Taken r = kept (Err CommonTaken) (by-room n t q b l false false Taken e i r) refl
 
 pub moves : (n : ℕ) (t : Places) → FitPlaces n t → (q : ℕ) (y : Heard) → Moves n t q y
 moves n t f q (unread k) = stays (ap (λ (u : Places). beyond n (holds_in u)) (unread-frame n t q k))
@@ -267,7 +268,7 @@ moves n t f q (says b) = go (ltb q n) refl (eqb b.seconds 0) refl (is_some (look
         goodbye n t f q b h (record { port = h; known = i; goodbye = eqb-true b.seconds 0 e })
     go true l true e false i =
         let h = ltb-true q n l in
-        kept n t f q b h UnknownGoodbye (by-room n t q b h true false (there n t q b) e i refl) refl
+        kept n t f q b h (Ok UnknownGoodbye) (by-room n t q b h true false (there n t q b) e i refl) refl
     go true l false e true i = refresh n t f q b (ltb-true q n l) e i
     go true l false e false i = new-one n t f q b (ltb-true q n l) e i (there n t q b) refl
 

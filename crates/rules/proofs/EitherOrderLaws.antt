@@ -9,14 +9,15 @@ use mathlib.Core.Option.{Option}
 use native.Mathlib.Omega.{arith}
 use borrow.Author.Tests.{eqb-true, eqb-false, eq-eqb, ne_eqb}
 use lib.Dec.{eqb}
+use Rattle.std.specs.Prelude.{Ok, Err}
 use Rattle.tally.specs.Tests.{pick}
 use Rattle.tally.proofs.CountsLaws.{sum_same}
+use Rattle.refusal.specs.declared.Refusal.TheVariants.{CommonTaken}
 use Rattle.rules.specs.Identity.{Ident, same}
 use Rattle.rules.specs.Events.{Announcement, Heard, unread, says, frame, History, whose}
 use Rattle.rules.specs.Shares.{common_for, beyond, port_is, chassis_is}
-use Rattle.rules.specs.Answers.{refusal_of_reply}
-use Rattle.rules.specs.declared.Reply.{Reply}
-use Rattle.rules.specs.declared.Reply.TheVariants.{Recorded, Gone, Refused}
+use Rattle.rules.specs.Answers.{Answered}
+use Rattle.rules.specs.declared.Reply.TheVariants.{Recorded, Gone}
 use Rattle.rules.specs.Model.{Rec, Places, is_some, lookup, holds_in, recorded, reply, after_frame, run}
 use Rattle.rules.specs.Fit.{FitPlaces}
 use Rattle.rules.specs.Records.{records_in, SameRecords}
@@ -41,7 +42,7 @@ module _ (n : ℕ) (t : Places) (f : FitPlaces n t) (p : ℕ) (x : Heard) (q : �
   same-port : SamePort p t behind
   same-port = other-port-same n t f p q d y
 
-  behind-reply : AsksCommon n t p x → reply n p x behind ≡ pick (is_none_left n behind) (Refused 8) Recorded
+  behind-reply : AsksCommon n t p x → reply n p x behind ≡ pick (is_none_left n behind) (Err CommonTaken) (Ok Recorded)
   behind-reply c = common-reply n behind (frame-fit n t f q y) p x (asks-too n p t behind same-port x c)
 
   -- the answer to x is the same before y and behind it, or the order matters
@@ -49,7 +50,7 @@ module _ (n : ℕ) (t : Places) (f : FitPlaces n t) (p : ℕ) (x : Heard) (q : �
   answer-or = go (decided n t f p x)
     where
       still : AsksCommon n t p x → is_none_left n t ≡ is_none_left n behind → reply n p x t ≡ reply n p x behind
-      still c e = common-reply n t f p x c ∙ ap (λ (b : Bool). pick b (Refused 8) Recorded) e ∙ sym (behind-reply c)
+      still c e = common-reply n t f p x c ∙ ap (λ (b : Bool). pick b (Err CommonTaken) (Ok Recorded)) e ∙ sym (behind-reply c)
 
       left_both : beyond n (holds_in t) ≢ common_for n → beyond n (holds_in behind) ≢ common_for n → is_none_left n t ≡ is_none_left n behind
       left_both e e' = ne_eqb (beyond n (holds_in t)) (common_for n) e ∙ sym (ne_eqb (beyond n (holds_in behind)) (common_for n) e')
@@ -74,35 +75,35 @@ module _ (n : ℕ) (t : Places) (f : FitPlaces n t) (p : ℕ) (x : Heard) (q : �
 -- What a frame leaves of who is heard, and of others
 
 module _ (n : ℕ) (t : Places) (f : FitPlaces n t) (p : ℕ) where
-  own-then : (a : Announcement) (r : Reply) → reply n p (says a) t ≡ r
+  own-then : (a : Announcement) (r : Answered) → reply n p (says a) t ≡ r
       → has p (says a) (after_frame n p (says a) t) ≡ is_some (after r (recorded p a) (lookup (whose p a) t))
   own-then a r e = ap is_some here
     where
       here : lookup (whose p a) (after_frame n p (says a) t) ≡ after r (recorded p a) (lookup (whose p a) t)
       here = rw (← e) (frame-lookup n t f p a (whose p a) ∙ rw (same_self (whose p a)) refl)
 
-  has-recorded : (x : Heard) → AsksCommon n t p x → reply n p x t ≡ Recorded → has p x (after_frame n p x t) ≡ true
+  has-recorded : (x : Heard) → AsksCommon n t p x → reply n p x t ≡ Ok Recorded → has p x (after_frame n p x t) ≡ true
   has-recorded (unread k) c e = absurd c.asks
-  has-recorded (says a) c e = own-then a Recorded e
+  has-recorded (says a) c e = own-then a (Ok Recorded) e
 
-  has-refused : (x : Heard) → AsksCommon n t p x → reply n p x t ≡ Refused 8 → has p x (after_frame n p x t) ≡ false
+  has-refused : (x : Heard) → AsksCommon n t p x → reply n p x t ≡ Err CommonTaken → has p x (after_frame n p x t) ≡ false
   has-refused (unread k) c e = absurd c.asks
-  has-refused (says a) c e = own-then a (Refused 8) e ∙ ap is_some c.asks.unknown
+  has-refused (says a) c e = own-then a (Err CommonTaken) e ∙ ap is_some c.asks.unknown
 
   others-stay : (x : Heard) (w : Ident) → Other w p x → lookup w (after_frame n p x t) ≡ lookup w t
   others-stay (unread k) w o = ap (lookup w) (unread-frame n t p k)
   others-stay (says a) w o = frame-lookup n t f p a w ∙ rw o refl
 
-  has-gone : (x : Heard) → Says (Leaving n t p) x → reply n p x t ≡ Gone → has p x (after_frame n p x t) ≡ false
+  has-gone : (x : Heard) → Says (Leaving n t p) x → reply n p x t ≡ Ok Gone → has p x (after_frame n p x t) ≡ false
   has-gone (unread k) c e = absurd c
-  has-gone (says a) c e = own-then a Gone e
+  has-gone (says a) c e = own-then a (Ok Gone) e
 
   -- one on another port among them
   has-stays : (x : Heard) (q : ℕ) (y : Heard) → p ≢ q → has p x (after_frame n q y t) ≡ has p x t
   has-stays (unread k) q y d = refl
   has-stays (says a) q y d = ap is_some (sym ((other-port-same n t f p q d y).found a))
 
-goodbye-reply : (n : ℕ) (t : Places) (p : ℕ) (x : Heard) → Says (Leaving n t p) x → reply n p x t ≡ Gone
+goodbye-reply : (n : ℕ) (t : Places) (p : ℕ) (x : Heard) → Says (Leaving n t p) x → reply n p x t ≡ Ok Gone
 goodbye-reply n t p (unread k) h = absurd h
 goodbye-reply n t p (says a) h = by-room n t p a h.port true true (there n t p a) (eq-eqb a.seconds 0 h.goodbye) h.known refl
 
@@ -128,8 +129,8 @@ module _ (n : ℕ) (t : Places) (f : FitPlaces n t) (p : ℕ) (x : Heard) (q : �
   first-recorded h =
       let m : beyond n (holds_in t) ≢ common_for n = omega (arith, taken-beyond n t, h.one_left) in
       let e : beyond n (holds_in then-x) ≡ common_for n = omega (arith, taken-beyond n t, h.one_left, common-taken n t f p x h.x_asks m) in
-      let one : reply n p x t ≡ Recorded = common-reply n t f p x h.x_asks ∙ rw (ne_eqb (beyond n (holds_in t)) (common_for n) m) refl in
-      let two : reply n q y then-x ≡ Refused 8 = behind-reply n t f q y p x d' h.y_asks ∙ rw (eq-eqb (beyond n (holds_in then-x)) (common_for n) e) refl in
+      let one : reply n p x t ≡ Ok Recorded = common-reply n t f p x h.x_asks ∙ rw (ne_eqb (beyond n (holds_in t)) (common_for n) m) refl in
+      let two : reply n q y then-x ≡ Err CommonTaken = behind-reply n t f q y p x d' h.y_asks ∙ rw (eq-eqb (beyond n (holds_in then-x)) (common_for n) e) refl in
       record {
         first = one;
         second = two;
@@ -141,8 +142,8 @@ module _ (n : ℕ) (t : Places) (f : FitPlaces n t) (p : ℕ) (x : Heard) (q : �
   recorded-behind h =
       let e : beyond n (holds_in t) ≡ common_for n = omega (arith, taken-beyond n t, h.none_left) in
       let m : beyond n (holds_in then-x) ≢ common_for n = let z = common-freed n t f p x h.frees in omega (arith, z, e) in
-      let late : reply n q y then-x ≡ Recorded = behind-reply n t f q y p x d' h.asks ∙ rw (ne_eqb (beyond n (holds_in then-x)) (common_for n) m) refl in
-      let early : reply n q y t ≡ Refused 8 = common-reply n t f q y h.asks ∙ rw (eq-eqb (beyond n (holds_in t)) (common_for n) e) refl in
+      let late : reply n q y then-x ≡ Ok Recorded = behind-reply n t f q y p x d' h.asks ∙ rw (ne_eqb (beyond n (holds_in then-x)) (common_for n) m) refl in
+      let early : reply n q y t ≡ Err CommonTaken = common-reply n t f q y h.asks ∙ rw (eq-eqb (beyond n (holds_in t)) (common_for n) e) refl in
       let go = goodbye-reply n t p x h.frees.leaves in
       let still = leaves-too n p t then-y (other-port-same n t f p q d y) x h.frees.leaves in
       let go-too = goodbye-reply n then-y p x still in
@@ -170,7 +171,7 @@ found-two : (n : ℕ) (t : Places) (f : FitPlaces n t) (p : ℕ) (a : Announceme
 found-two n t f p a q b d e w =
     frame-lookup n (after_frame n p (says a) t) (frame-fit n t f p (says a)) q b w
     ∙ ap₂ (λ (x y : Option Rec). pick (same w (whose q b)) x y)
-    (ap₂ (λ (x : Reply) (y : Option Rec). after x (recorded q b) y) e (sym ((other-port-same n t f q p d (says a)).found b)))
+    (ap₂ (λ (x : Answered) (y : Option Rec). after x (recorded q b) y) e (sym ((other-port-same n t f q p d (says a)).found b)))
     (frame-lookup n t f p a w)
 
 module _ (n : ℕ) (t : Places) (f : FitPlaces n t) (p q : ℕ) (d : p ≢ q) where
@@ -266,20 +267,20 @@ module _ (n : ℕ) (t u : Places) (f : FitPlaces n t) (g : FitPlaces n u) (s : S
       go (inl e) (inr (freed_by_x h)) = inr (freed_by_y h)
       go (inl e) (inr (freed_by_y h)) = inr (freed_by_x h)
 
-  recorded-not-8 : (r r' : Reply) → r ≡ Recorded → r' ≡ Refused 8 → r ≢ r'
-  recorded-not-8 r r' e e' z = let k : ◌≡◌ {A = ℕ} 0 8 = ap refusal_of_reply (sym e ∙ z ∙ e') in omega (arith, k)
+  recorded-not-taken : (r r' : Answered) → r ≡ Ok Recorded → r' ≡ Err CommonTaken → r ≢ r'
+  recorded-not-taken r r' e e' z = cc
 
   differs : OrderMatters n t p x q y → ¬ Alike n t u p x q y
   differs (asked_twice h) a =
-      recorded-not-8 (reply n q y t) (reply n q y (after_frame n p x t)) (first-recorded n t f q y p x apart (last-sym n t p x q y h)).first
+      recorded-not-taken (reply n q y t) (reply n q y (after_frame n p x t)) (first-recorded n t f q y p x apart (last-sym n t p x q y h)).first
       (first-recorded n t f p x q y d h).second (same-reply n t u f g s q y ∙ sym a.answer_y)
   differs (freed_by_x h) a =
       let k = recorded-behind n t f p x q y d h in
-      recorded-not-8 (reply n q y (after_frame n p x t)) (reply n q y t) k.behind k.before (a.answer_y ∙ sym (same-reply n t u f g s q y))
+      recorded-not-taken (reply n q y (after_frame n p x t)) (reply n q y t) k.behind k.before (a.answer_y ∙ sym (same-reply n t u f g s q y))
   differs (freed_by_y h) a =
       let k = recorded-behind n t f q y p x apart h in
       let b = same-reply n (after_frame n q y t) (after_frame n q y u) (frame-fit n t f q y) (frame-fit n u g q y) (same_step n t u f g s (frame q y)) p x in
-      recorded-not-8 (reply n p x (after_frame n q y t)) (reply n p x t) k.behind k.before (b ∙ sym a.answer_x)
+      recorded-not-taken (reply n p x (after_frame n q y t)) (reply n p x t) k.behind k.before (b ∙ sym a.answer_x)
 
   -- E2, both ways: the order matters exactly then, and else both orders come to the same
   pub exactly : (¬ Alike n t u p x q y) ↔ OrderMatters n t p x q y

@@ -9,16 +9,18 @@ use native.Mathlib.Omega.{arith}
 use borrow.Author.Tests.{ltb-true, lt-ltb, le-ltb, ne_eqb}
 use lib.Dec.{ltb, leb, eqb}
 use lib.ListN.{replicate, length-replicate}
+use Rattle.std.specs.Prelude.{Ok, Err}
 use Rattle.tally.specs.Tests.{pick}
 use Rattle.tally.proofs.CountsLaws.{sum_same, sum-zero}
+use Rattle.refusal.specs.declared.Refusal.{Refusal}
+use Rattle.refusal.specs.declared.Refusal.TheVariants.{NoPort, PortFull, CommonTaken, ChassisLoud}
 use Rattle.rules.specs.Identity.{Ident, same}
 use Rattle.rules.specs.Events.{Announcement, Heard, unread, says, Event, frame, passed, lost, History, whose}
 use Rattle.rules.specs.Shares.{sure, places_for, beyond, port_is, chassis_is, room}
 use Rattle.rules.specs.declared.Room.{Room}
 use Rattle.rules.specs.declared.Room.TheVariants.{Enough, Loud, Full, Taken}
-use Rattle.rules.specs.Answers.{answer_to}
-use Rattle.rules.specs.declared.Reply.{Reply}
-use Rattle.rules.specs.declared.Reply.TheVariants.{Recorded, Refreshed, Gone, UnknownGoodbye, Refused}
+use Rattle.rules.specs.Answers.{Answered, answer_to}
+use Rattle.rules.specs.declared.Reply.TheVariants.{Recorded, Refreshed, Gone, UnknownGoodbye}
 use Rattle.rules.specs.Model.{Rec, Places, is_some, lookup, hits, tally, holds_in, holds_of, on_record, each_record, tick, unplug, swap, recorded, act, reply, after_frame, step, run}
 use Rattle.rules.specs.Fit.{InAll, Absent, Once, Ports, FitPlaces}
 use Rattle.rules.proofs.IdentityLaws.{same_true, same_self, same-cast, differ-sym}
@@ -96,19 +98,19 @@ is_none none e = refl
 is_none (some r) e = cc
 
 -- what a frame's own identity has afterwards
-abbrev pub after : Reply → Rec → Option Rec → Option Rec
-after Recorded r old = some r
-after Refreshed r old = some r
-after Gone r old = none
-after UnknownGoodbye r old = old
-after (Refused k) r old = old
+abbrev pub after : Answered → Rec → Option Rec → Option Rec
+after (Ok Recorded) r old = some r
+after (Ok Refreshed) r old = some r
+after (Ok Gone) r old = none
+after (Ok UnknownGoodbye) r old = old
+after (Err k) r old = old
 
-after-of : (x : Reply) (r : Rec) (old : Option Rec) → Of r.who old → Of r.who (after x r old)
-after-of Recorded r old o = refl
-after-of Refreshed r old o = refl
-after-of Gone r old o = tt
-after-of UnknownGoodbye r old o = o
-after-of (Refused k) r old o = o
+after-of : (x : Answered) (r : Rec) (old : Option Rec) → Of r.who old → Of r.who (after x r old)
+after-of (Ok Recorded) r old o = refl
+after-of (Ok Refreshed) r old o = refl
+after-of (Ok Gone) r old o = tt
+after-of (Ok UnknownGoodbye) r old o = o
+after-of (Err k) r old o = o
 
 -- a test that w fails does not count what w has
 unhit : (g : Ident → Bool) (w : Ident) (x : Option Rec) → Of w x → g w ≡ false → hits g x ≡ 0
@@ -130,18 +132,18 @@ module _ (n : ℕ) (t : Places) (f : FitPlaces n t) (p : ℕ) (a : Announcement)
       go false e = refl
 
   -- the answer x leads from t to a fit table, and changes what v has alone; what a test counts moves with that
-  record Right (x : Reply) : Type 0 where
+  record Right (x : Answered) : Type 0 where
     fit : FitPlaces n (act x rec t)
     found : (w : Ident) → lookup w (act x rec t) ≡ pick (same w v) (after x rec (lookup v t)) (lookup w t)
     counted : (g : Ident → Bool) → tally g (act x rec t) + hits g (lookup v t) ≡ tally g t + hits g (after x rec (lookup v t))
 
-  stays : (x : Reply) → act x rec t ≡ t → after x rec (lookup v t) ≡ lookup v t → Right x
+  stays : (x : Answered) → act x rec t ≡ t → after x rec (lookup v t) ≡ lookup v t → Right x
   stays x e d = record { fit = rw e f; found = λ w. rw (e, d) (unmoved w); counted = λ g. rw (e, d) refl }
 
   acts : p < n → (g k : Bool) → is_some (lookup v t) ≡ k → (rm : Room) → room n (λ g. tally g t) v ≡ rm → Right (answer_to g k rm)
   acts l true true d rm m =
       record { fit = fit-each (swap v none) (swap-keeps v none tt) n t f; found = lookup-swap v none tt t f.once d; counted = λ g. tally-swap g v none t f.once d }
-  acts l true false d rm m = stays UnknownGoodbye refl refl
+  acts l true false d rm m = stays (Ok UnknownGoodbye) refl refl
   acts l false true d rm m =
       record {
         fit = fit-each (swap v (some rec)) (swap-keeps v (some rec) refl) n t f;
@@ -153,17 +155,17 @@ module _ (n : ℕ) (t : Places) (f : FitPlaces n t) (p : ℕ) (a : Announcement)
       let o : Absent v t = lookup_absent v t (is_none (lookup v t) d) in
       let free = room-free n t (holds_of t p v.chassis) p f l k in
       record { fit = fit-enter rec n t f l k o; found = λ w. lookup-enter rec w t free o; counted = λ g. rw (is_none (lookup v t) d) (omega (arith, tally-enter rec g t free)) }
-  acts l false false d Loud m = stays (Refused 13) refl refl
-  acts l false false d Full m = stays (Refused 7) refl refl
-  acts l false false d Taken m = stays (Refused 8) refl refl
+  acts l false false d Loud m = stays (Err ChassisLoud) refl refl
+  acts l false false d Full m = stays (Err PortFull) refl refl
+  acts l false false d Taken m = stays (Err CommonTaken) refl refl
 
   frames : Right (reply n p (says a) t)
   unfolding reply
   frames = go (ltb p n) refl
     where
-      go : (b : Bool) → ltb p n ≡ b → Right (pick b (answer_to (eqb a.seconds 0) (is_some (lookup v t)) (room n (λ g. tally g t) v)) (Refused 2))
+      go : (b : Bool) → ltb p n ≡ b → Right (pick b (answer_to (eqb a.seconds 0) (is_some (lookup v t)) (room n (λ g. tally g t) v)) (Err NoPort))
       go true e = acts (ltb-true p n e) (eqb a.seconds 0) (is_some (lookup v t)) refl (room n (λ g. tally g t) v) refl
-      go false e = stays (Refused 2) refl refl
+      go false e = stays (Err NoPort) refl refl
 
 module _ (n : ℕ) (t : Places) (f : FitPlaces n t) where
   pub frame-fit : (p : ℕ) (x : Heard) → FitPlaces n (after_frame n p x t)
@@ -189,7 +191,7 @@ module _ (n : ℕ) (t : Places) (f : FitPlaces n t) where
   pub frame-tally : (p : ℕ) (a : Announcement) (g : Ident → Bool) → g (whose p a) ≡ false → tally g (after_frame n p (says a) t) ≡ tally g t
   frame-tally p a g e =
       let w : Ident = whose p a in
-      let x : Reply = reply n p (says a) t in
+      let x : Answered = reply n p (says a) t in
       omega (
         arith,
         frame-count p a g,
@@ -240,7 +242,7 @@ run-fit n (e ∷ h) = step-fit n (run n h) (run-fit n h) e
 
 module _ (n : ℕ) (t : Places) (p : ℕ) where
   -- a port that there is not
-  pub no-reply : (x : Heard) → n ≤ p → reply n p x t ≡ Refused 2
+  pub no-reply : (x : Heard) → n ≤ p → reply n p x t ≡ Err NoPort
   unfolding reply
   no-reply (unread k) h = rw (le-ltb p n h)
   no-reply (says a) h = rw (le-ltb p n h)
@@ -248,14 +250,14 @@ module _ (n : ℕ) (t : Places) (p : ℕ) where
   pub no-frame : (x : Heard) → n ≤ p → after_frame n p x t ≡ t
   unfolding after_frame
   no-frame (unread k) h = refl
-  no-frame (says a) h = ap (λ (y : Reply). act y (recorded p a) t) (no-reply (says a) h)
+  no-frame (says a) h = ap (λ (y : Answered). act y (recorded p a) t) (no-reply (says a) h)
 
   -- a frame that the reader refuses
-  pub unread-reply : (k : ℕ) → p < n → reply n p (unread k) t ≡ Refused k
+  pub unread-reply : (k : Refusal) → p < n → reply n p (unread k) t ≡ Err k
   unfolding reply
   unread-reply k h = rw (lt-ltb p n h)
 
-  pub unread-frame : (k : ℕ) → after_frame n p (unread k) t ≡ t
+  pub unread-frame : (k : Refusal) → after_frame n p (unread k) t ≡ t
   unfolding after_frame
   unread-frame k = refl
 
@@ -267,4 +269,4 @@ module _ (n : ℕ) (t : Places) (p : ℕ) where
 
     pub frame_is : after_frame n p (says a) t ≡ act (answer_to (eqb a.seconds 0) b rm) (recorded p a) t
     unfolding after_frame
-    frame_is = ap (λ (y : Reply). act y (recorded p a) t) reply-is
+    frame_is = ap (λ (y : Answered). act y (recorded p a) t) reply-is

@@ -7,14 +7,14 @@ use mathlib.Core.List.{[], ◌∷◌}
 use mathlib.Core.Option.{Option, none, some, none-ne-some}
 use native.Mathlib.Omega.{arith}
 use lib.Dec.{ltb, eqb}
+use Rattle.std.specs.Prelude.{Err}
 use Rattle.tally.specs.Tests.{pick}
+use Rattle.refusal.specs.declared.Refusal.TheVariants.{NoPort}
 use Rattle.rules.specs.Identity.{Ident, same}
 use Rattle.rules.specs.Events.{Heard, unread, says, Event, frame, passed, lost, whose}
 use Rattle.rules.specs.Shares.{room}
-use Rattle.rules.specs.Answers.{answer_to}
+use Rattle.rules.specs.Answers.{Answered, answer_to}
 use Rattle.rules.specs.declared.Room.{Room}
-use Rattle.rules.specs.declared.Reply.{Reply}
-use Rattle.rules.specs.declared.Reply.TheVariants.{Refused}
 use Rattle.rules.specs.Model.{Rec, Places, is_some, lookup, tally, on_record, each_record, tick, unplug, swap, recorded, reply, step}
 use Rattle.rules.specs.Fit.{Once, FitPlaces}
 use Rattle.rules.specs.Records.{records_in, SameRecords}
@@ -69,7 +69,7 @@ module _ (n : ℕ) (t u : Places) (f : FitPlaces n t) (g : FitPlaces n u) (s : S
   unfolding reply
   same-reply p (unread k) = refl
   same-reply p (says a) =
-      ap₂ (λ (b : Bool) (rm : Room). pick (ltb p n) (answer_to (eqb a.seconds 0) b rm) (Refused 2))
+      ap₂ (λ (b : Bool) (rm : Room). pick (ltb p n) (answer_to (eqb a.seconds 0) b rm) (Err NoPort))
       (ap is_some (same-finds (whose p a)))
       (ap (λ (h : (Ident → Bool) → ℕ). room n h (whose p a)) (fun_ext same_count))
 
@@ -78,7 +78,7 @@ module _ (n : ℕ) (t u : Places) (f : FitPlaces n t) (g : FitPlaces n u) (s : S
   found-behind (frame p (says a)) w =
       frame-lookup n t f p a w
       ∙ ap₂ (λ (x y : Option Rec). pick (same w (whose p a)) x y)
-      (ap₂ (λ (x : Reply) (y : Option Rec). after x (recorded p a) y) (same-reply p (says a)) (same-finds (whose p a)))
+      (ap₂ (λ (x : Answered) (y : Option Rec). after x (recorded p a) y) (same-reply p (says a)) (same-finds (whose p a)))
       (same-finds w)
       ∙ sym (frame-lookup n u g p a w)
   found-behind (passed m) w =

@@ -1,11 +1,12 @@
 -- Two frames on different ports, in either order: when both orders come to the same (E1), and exactly when they do not (E2).
 -- One table takes x on port p and then y on port q, another with the same records takes y and then x (E5); what is held is counted before the two.
-use Rattle.std.specs.Prelude.{ℕ, ◌+◌, ◌-◌, ◌*◌, ◌≤◌, ◌<◌, ◌≡◌, ◌≢◌, ◌⊎◌, Bool, true, false, [], ◌∷◌}
+use Rattle.std.specs.Prelude.{ℕ, ◌+◌, ◌-◌, ◌*◌, ◌≤◌, ◌<◌, ◌≡◌, ◌≢◌, ◌⊎◌, Bool, true, false, [], ◌∷◌, Ok, Err}
 use Rattle.std.proofs.Math.Option.{none}
 use Rattle.tally.specs.Counts.{sum}
+use Rattle.refusal.specs.declared.Refusal.TheVariants.{NoPort, CommonTaken}
 use Rattle.rules.specs.Identity.{Ident, same}
 use Rattle.rules.specs.Events.{Announcement, Heard, unread, says, Event, frame, History, whose}
-use Rattle.rules.specs.declared.Reply.TheVariants.{Recorded, Gone, Refused}
+use Rattle.rules.specs.declared.Reply.TheVariants.{Recorded, Gone}
 use Rattle.rules.specs.Model.{Places, is_some, lookup, holds_in, holds_of, reply, after_frame, run}
 use Rattle.rules.specs.Records.{records_in, SameRecords}
 
@@ -67,20 +68,20 @@ has p (says a) t = is_some (lookup (whose p a) t)
 
 -- what (a) comes to: the frame that is first is recorded and the other one gets 8, and so the table knows the one and not the other
 pub record FirstRecorded (n : ℕ) (t : Places) (p : ℕ) (x : Heard) (q : ℕ) (y : Heard) : Type 0 where
-  pub first : reply n p x t ≡ Recorded
-  pub second : reply n q y (after_frame n p x t) ≡ Refused 8
+  pub first : reply n p x t ≡ Ok Recorded
+  pub second : reply n q y (after_frame n p x t) ≡ Err CommonTaken
   pub first_known : has p x (after_frame n q y (after_frame n p x t)) ≡ true
   pub second_unknown : has q y (after_frame n q y (after_frame n p x t)) ≡ false
 
 -- what (b) comes to: the goodbye is gone in both orders, and its identity unknown; behind it the other frame is recorded, and before it it gets 8 and stays unknown
 pub record RecordedBehind (n : ℕ) (t : Places) (p : ℕ) (x : Heard) (q : ℕ) (y : Heard) : Type 0 where
-  pub gone : reply n p x t ≡ Gone
+  pub gone : reply n p x t ≡ Ok Gone
   pub gone_unknown : has p x (after_frame n q y (after_frame n p x t)) ≡ false
-  pub behind : reply n q y (after_frame n p x t) ≡ Recorded
+  pub behind : reply n q y (after_frame n p x t) ≡ Ok Recorded
   pub behind_known : has q y (after_frame n q y (after_frame n p x t)) ≡ true
-  pub before : reply n q y t ≡ Refused 8
+  pub before : reply n q y t ≡ Err CommonTaken
   pub before_unknown : has q y (after_frame n p x (after_frame n q y t)) ≡ false
-  pub gone_too : reply n p x (after_frame n q y t) ≡ Gone
+  pub gone_too : reply n p x (after_frame n q y t) ≡ Ok Gone
   pub gone_too_unknown : has p x (after_frame n p x (after_frame n q y t)) ≡ false
 
 -- E2
@@ -100,8 +101,8 @@ OneAtMost t p q = (holds_in t p ≤ 1) ⊎ (holds_in t q ≤ 1)
 
 -- E4: x gets 2 in both orders and changes no place, and y is answered and kept as if it came alone
 pub record AsIfAlone (n : ℕ) (t : Places) (p : ℕ) (x : Heard) (q : ℕ) (y : Heard) : Type 0 where
-  pub answer_x : reply n p x t ≡ Refused 2
-  pub answer_x_too : reply n p x (after_frame n q y t) ≡ Refused 2
+  pub answer_x : reply n p x t ≡ Err NoPort
+  pub answer_x_too : reply n p x (after_frame n q y t) ≡ Err NoPort
   pub answer_y : reply n q y (after_frame n p x t) ≡ reply n q y t
   pub left : after_frame n q y (after_frame n p x t) ≡ after_frame n q y t
   pub left_too : after_frame n p x (after_frame n q y t) ≡ after_frame n q y t

@@ -1,6 +1,7 @@
 -- What happens to a table: a frame on a port, seconds that pass, a link that is lost; and histories of these.
 -- Of a frame only what the reader says of it counts.
 use Rattle.std.specs.Prelude.{ℕ, List}
+use Rattle.refusal.specs.declared.Refusal.{Refusal}
 use Rattle.ids.specs.Id.{Id}
 use Rattle.rules.specs.Identity.{Ident}
 
@@ -12,9 +13,9 @@ pub record Announcement : Type 0 where
   pub octets : List ℕ
   pub sender : List ℕ
 
--- what the reader says of a frame: its refusal number, or what the frame says
+-- what the reader says of a frame: why it is refused, or what the frame says
 pub data Heard : Type 0 where
-  unread : ℕ → Heard
+  unread : Refusal → Heard
   says : Announcement → Heard
 
 pub data Event : Type 0 where

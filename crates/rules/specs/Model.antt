@@ -1,16 +1,16 @@
 -- The table as a list of places, and what each event does to it (N7 to N9).
 -- A place is free or has a record; a new record takes the lowest free place (N4).
-use Rattle.std.specs.Prelude.{ℕ, ◌+◌, ◌-◌, List, [], ◌∷◌, Bool, true, false, ltb, leb, eqb, replicate}
+use Rattle.std.specs.Prelude.{ℕ, ◌+◌, ◌-◌, List, [], ◌∷◌, Bool, true, false, Ok, Err, ltb, leb, eqb, replicate}
 use Rattle.std.proofs.Math.Option.{Option, none, some}
 use Rattle.tally.specs.Tests.{pick}
 use Rattle.tally.specs.Counts.{one}
+use Rattle.refusal.specs.declared.Refusal.TheVariants.{NoPort}
 use Rattle.ids.specs.Id.{Id}
 use Rattle.rules.specs.Identity.{Ident, same}
 use Rattle.rules.specs.Events.{Announcement, Heard, unread, says, Event, frame, passed, lost, History, whose}
 use Rattle.rules.specs.Shares.{places_for, port_is, chassis_is, room}
-use Rattle.rules.specs.Answers.{answer_to}
-use Rattle.rules.specs.declared.Reply.{Reply}
-use Rattle.rules.specs.declared.Reply.TheVariants.{Recorded, Refreshed, Gone, UnknownGoodbye, Refused}
+use Rattle.rules.specs.Answers.{Answered, answer_to}
+use Rattle.rules.specs.declared.Reply.TheVariants.{Recorded, Refreshed, Gone, UnknownGoodbye}
 
 pub record Rec : Type 0 where
   pub who : Ident
@@ -80,18 +80,18 @@ abbrev pub recorded : ℕ → Announcement → Rec
 recorded p a = record { who = whose p a; left = a.seconds; octets = a.octets; sender = a.sender }
 
 -- what an answer does with the record that was heard
-abbrev pub act : Reply → Rec → Places → Places
-act Recorded r t = enter r t
-act Refreshed r t = each_record (swap r.who (some r)) t
-act Gone r t = each_record (swap r.who none) t
-act UnknownGoodbye r t = t
-act (Refused k) r t = t
+abbrev pub act : Answered → Rec → Places → Places
+act (Ok Recorded) r t = enter r t
+act (Ok Refreshed) r t = each_record (swap r.who (some r)) t
+act (Ok Gone) r t = each_record (swap r.who none) t
+act (Ok UnknownGoodbye) r t = t
+act (Err k) r t = t
 
 -- the answer to what is heard on port p, with n ports: R2, then the reader's refusal, then N7
-unfoldable pub reply : ℕ → ℕ → Heard → Places → Reply
-reply n p (unread k) t = pick (ltb p n) (Refused k) (Refused 2)
+unfoldable pub reply : ℕ → ℕ → Heard → Places → Answered
+reply n p (unread k) t = pick (ltb p n) (Err k) (Err NoPort)
 reply n p (says a) t =
-    pick (ltb p n) (answer_to (eqb a.seconds 0) (is_some (lookup (whose p a) t)) (room n (λ g. tally g t) (whose p a))) (Refused 2)
+    pick (ltb p n) (answer_to (eqb a.seconds 0) (is_some (lookup (whose p a) t)) (room n (λ g. tally g t) (whose p a))) (Err NoPort)
 
 unfoldable pub after_frame : ℕ → ℕ → Heard → Places → Places
 unfolding reply

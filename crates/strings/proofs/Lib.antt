@@ -1,5 +1,4 @@
--- The laws of the characters of a port description and of what an ID wants.
+-- The laws of the characters of a port description.
 -- Sole is the theorem that two answers of one contract coincide.
 pub mod TextLaws
-pub mod WantsLaws
 pub mod Sole

@@ -10,10 +10,10 @@ ghost use Rattle.strings.specs.Wants.{wanted_of};
 fn unprintable(b: u8) -> bool
     ensures { result ≡ not (char_ok b) }
 {
-    let quotes = (b == 34) | (b == 38);
-    let signs = (b == 60) | (b == 62);
-    let brackets = (b > 90) & (b < 97) & (b != 95);
-    (b < 32) | quotes | signs | brackets | (b > 122)
+    let quotes = (b == b'"') | (b == b'&');
+    let signs = (b == b'<') | (b == b'>');
+    let brackets = (b > b'Z') & (b < b'a') & (b != b'_');
+    (b < b' ') | quotes | signs | brackets | (b > b'z')
 }
 
 // Every octet is looked at, also behind one that may not be there: octets are then tested many at a time.
@@ -21,8 +21,8 @@ pub fn is_text(part: &[u8]) -> bool
     ensures { result ≡ text_ok part.now }
 {
     let mut bad = false;
-    for i in 0..part.len() {
-        bad = bad | unprintable(part[i]);
+    for &b in part {
+        bad |= unprintable(b);
     }
     !bad
 }
@@ -38,6 +38,7 @@ pub enum Wanted {
     Vendor,
 }
 
+#[tactic(auto, unfolding(crate::specs::Wants::wanted_of))]
 pub fn wanted_of(id: u8) -> Wanted
     ensures { result ≡ wanted_of id }
 {
@@ -46,6 +47,7 @@ pub fn wanted_of(id: u8) -> Wanted
         2 => Wanted::Text(6),
         3 | 4 => Wanted::Text(31),
         255 => Wanted::Vendor,
+        // Those that are listed (T4) stand apart from those that are not (T5), so that an edit can tell them apart.
         20..=27 | 50..=54 | 80 => Wanted::Free,
         0 | 5..=19 | 28..=49 | 55..=79 | 81..=254 => Wanted::Free,
     }

@@ -1,23 +1,19 @@
 -- What was found of the system fields means what the rules say of the TLVs (S1 to S5).
--- `system-means` is the theorem; behind it stand the laws of a description's management addresses by their numbers.
+-- `system-means` is the theorem; the laws of each field stand before it.
 use Prim.Native.Nat.{ℕ, ◌+◌, ◌<◌, ◌≤◌}
 use mathlib.Core.Path.{◌≡◌, refl, sym, ap, ◌∙◌}
 use mathlib.Core.List.{List, [], map}
 use mathlib.Core.Bool.{Bool, true, false}
 use mathlib.Core.Option.{none, some}
+use Rattle.std.specs.Prelude.{Some, None}
 use native.Mathlib.Omega.{arith}
 use lib.ListN.{length, drop, get_or, length-drop}
 use lib.Seq.{length-take-le}
 use lib.Dec.{leb, eqb}
 use Rattle.tally.specs.Tests.{pick}
-use Rattle.tally.specs.Ranges.{all_below}
-use Rattle.tally.proofs.RangesLaws.{all_listed}
 use Rattle.octets.specs.Numbers.{pair_of}
-use Rattle.text.specs.Part.{nowhere, text_of, parts_in, texts_of}
-use Rattle.text.specs.declared.Part.{Part}
-use Rattle.text.specs.declared.Parts.{Parts}
-use Rattle.text.proofs.PartsLaws.{texts-length, texts-at}
-use Rattle.fields.specs.Field.{system_name, system_description, capabilities, topics, management_ok}
+use Rattle.text.specs.Part.{nowhere, text_of}
+use Rattle.fields.specs.Field.{system_name, system_description, capabilities, topics}
 use Rattle.walk.specs.Walk.{Placed}
 use Rattle.found.specs.Contents.{contents, first}
 use Rattle.found.specs.Found.{nothing, part_at, mark_of, gather}
@@ -25,8 +21,7 @@ use Rattle.found.specs.declared.Mark.{Mark}
 use Rattle.found.specs.declared.Found.{Found}
 use Rattle.found.proofs.MarkLaws.{AllIn, tlv_of, text_at, Means, topic-means}
 use Rattle.found.proofs.ManagementLaws.{management-means}
-use Rattle.system.specs.System.{flags, up_to255, flags_in, system_in, management_sound, short_at, capabilities_in, system_at, flags_meant, system_meant}
-use Rattle.system.specs.declared.Capabilities.TheVariants as capabilities-are
+use Rattle.system.specs.System.{flags, up_to255, flags_in, system_in, short_at, capabilities_in, system_at, flags_meant, system_meant}
 use Rattle.system.proofs.TypeLaws.{by-topics}
 
 -- Each field
@@ -35,7 +30,7 @@ flags-mean : (b : List ℕ) → flags_meant (capabilities_in b) ≡ flags_in b
 unfolding capabilities_in
 flags-mean b = go (eqb (length b) 4)
   where
-    go : (t : Bool) → flags_meant (pick t (capabilities-are.Flags (pair_of (get_or b 0 0) (get_or b 1 0)) (pair_of (get_or b 2 0) (get_or b 3 0))) capabilities-are.Absent)
+    go : (t : Bool) → flags_meant (pick t (Some (record { able = pair_of (get_or b 0 0) (get_or b 1 0); enabled = pair_of (get_or b 2 0) (get_or b 3 0) })) None)
         ≡ pick t (some (flags (pair_of (get_or b 0 0) (get_or b 1 0)) (pair_of (get_or b 2 0) (get_or b 3 0)))) none
     go true = refl
     go false = refl
@@ -78,17 +73,3 @@ system-means s ps i =
 -- a text that has the same octets for the capabilities gives the same
 pub system-same : (u s : List ℕ) (f : Found) → text_at u (mark_of capabilities f) ≡ text_at s (mark_of capabilities f) → system_at u f ≡ system_at s f
 system-same u s f e = rw e
-
--- The management addresses of a description, by their numbers
-
-module _ (s : List ℕ) (l : Parts) where
-  abbrev pub asked : ℕ → Bool
-  asked k = management_ok (length (get_or (texts_of s l) k []))
-
-  -- the address that the code has in hand for a number
-  pub asked_is : (k : ℕ) {p : Part} {x : List ℕ} {r : Bool} → p ≡ get_or (parts_in l) k nowhere → x ≡ text_of s p → r ≡ management_ok (length x) → asked k ≡ r
-  asked_is k e f g = rw (texts-at s l k, g, f, e)
-
-  -- all of them
-  pub asked-all : all_below asked (length (parts_in l)) ≡ management_sound (texts_of s l)
-  asked-all = ap (all_below asked) (sym (texts-length s l)) ∙ all_listed (λ a. management_ok (length a)) (texts_of s l) []

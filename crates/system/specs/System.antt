@@ -1,6 +1,6 @@
 -- The system fields (S1 to S5): what the TLVs of types 5 to 8 say together, and when those of a description are right.
 -- `system_in` is the one to believe; `system_at` says it by places, as the code answers, and `system_meant` what that means.
-use Rattle.std.specs.Prelude.{ℕ, List, [], ◌∷◌, map, Bool, length, take, get_or, leb, eqb}
+use Rattle.std.specs.Prelude.{ℕ, List, [], ◌∷◌, map, Bool, length, take, get_or, leb, eqb, Option as CodeOption, Some, None}
 use Rattle.std.proofs.Math.Option.{Option, none, some}
 use Rattle.tally.specs.Tests.{pick, all, is_none}
 use Rattle.octets.specs.Numbers.{pair_of}
@@ -13,7 +13,6 @@ use Rattle.found.specs.Found.{part_at, mark_of}
 use Rattle.found.specs.declared.Mark.{Mark}
 use Rattle.found.specs.declared.Found.{Found}
 use Rattle.system.specs.declared.Capabilities.{Capabilities}
-use Rattle.system.specs.declared.Capabilities.TheVariants as capabilities-are
 use Rattle.system.specs.declared.System.{System}
 
 -- What is said
@@ -88,9 +87,9 @@ absent_rules x =
 unfoldable pub short_at : Mark → Part
 short_at m = pick (leb m.len 255) (part_at m) nowhere
 
-unfoldable pub capabilities_in : List ℕ → Capabilities
+unfoldable pub capabilities_in : List ℕ → CodeOption Capabilities
 capabilities_in b =
-    pick (eqb (length b) 4) (capabilities-are.Flags (pair_of (get_or b 0 0) (get_or b 1 0)) (pair_of (get_or b 2 0) (get_or b 3 0))) capabilities-are.Absent
+    pick (eqb (length b) 4) (Some (record { able = pair_of (get_or b 0 0) (get_or b 1 0); enabled = pair_of (get_or b 2 0) (get_or b 3 0) })) None
 
 abbrev pub system_at : List ℕ → Found → System
 system_at s f =
@@ -102,13 +101,13 @@ system_at s f =
     }
 
 abbrev pub empty_system : System
-empty_system = record { name = nowhere; description = nowhere; capabilities = capabilities-are.Absent; management = empty_parts }
+empty_system = record { name = nowhere; description = nowhere; capabilities = None; management = empty_parts }
 
 -- What that means over the text s
 
-abbrev pub flags_meant : Capabilities → Option Flags
-flags_meant capabilities-are.Absent = none
-flags_meant (capabilities-are.Flags able enabled) = some (flags able enabled)
+abbrev pub flags_meant : CodeOption Capabilities → Option Flags
+flags_meant None = none
+flags_meant (Some c) = some (flags c.able c.enabled)
 
 abbrev pub system_meant : List ℕ → System → SystemInfo
 system_meant s x =

@@ -10,25 +10,24 @@ use native.Mathlib.Omega.{arith}
 use borrow.Author.Tests.{eqb-true, eqb-false, ne_eqb, ltb-true, ltb-false, lt-ltb, le-ltb, not-true}
 use lib.Dec.{ltb, eqb}
 use lib.ListN.{length, get_or, set, take, drop, length-drop}
+use Rattle.std.specs.Prelude.{Ok, Err}
 use Rattle.tally.specs.Tests.{pick}
 use Rattle.tally.proofs.TestsLaws.{both_true}
 use Rattle.tally.proofs.CountsLaws.{first_passes, first-before}
-use Rattle.lldpdu.specs.Outline.{refused_outline, outline_of}
-use Rattle.walk.specs.declared.Extent.{Extent}
-use Rattle.walk.specs.declared.Extent.TheVariants as extent-is
-use Rattle.lldpdu.specs.declared.outline.Outline.{Outline}
-use Rattle.lldpdu.proofs.ExtentLaws.{good, not-both, outline-extent}
+use Rattle.refusal.specs.declared.Refusal.TheVariants.{NoPort, NoFrame, PortFull, CommonTaken, ChassisLoud}
+use Rattle.walk.specs.Walk.{Extent}
+use Rattle.lldpdu.specs.Extent.{extent_of}
+use Rattle.lldpdu.proofs.ExtentLaws.{good}
 use Rattle.lldpdu.proofs.Stable.{sized}
 use Rattle.reader.specs.Frame as reader
 use Rattle.reader.proofs.FrameLaws.{frame-size, frame-station, on-good, on-bad}
 use Rattle.rules.specs.Identity.{Ident, same}
 use Rattle.rules.specs.Events.{Announcement, Heard, says, whose}
 use Rattle.rules.specs.Shares.{chassis_is, room}
-use Rattle.rules.specs.Answers.{answer_to}
+use Rattle.rules.specs.Answers.{Answered, answer_to}
 use Rattle.rules.specs.declared.Room.{Room}
 use Rattle.rules.specs.declared.Room.TheVariants.{Enough, Loud, Full, Taken}
-use Rattle.rules.specs.declared.Reply.{Reply}
-use Rattle.rules.specs.declared.Reply.TheVariants.{Recorded, Refreshed, Gone, UnknownGoodbye, Refused}
+use Rattle.rules.specs.declared.Reply.TheVariants.{Recorded, Refreshed, Gone, UnknownGoodbye}
 use Rattle.rules.specs.Model as model
 use Rattle.rules.specs.Model.{Rec, is_some, lookup, tally, swap, recorded, act, reply, after_frame}
 use Rattle.rules.specs.Fit.{Absent, Once}
@@ -53,18 +52,18 @@ use Rattle.fitness.proofs.WrittenLaws.{Good, Spoken, keep-place, keep-good, put_
 
 -- What the reader says of a frame
 
-valid-frame : (f : List ℕ) (e : ℕ) → extent_on f ≡ extent-is.Octets e → reader.frame_ok f ≡ true
+valid-frame : (f : List ℕ) (e : ℕ) → extent_on f ≡ Ok e → reader.frame_ok f ≡ true
 valid-frame f e v = go (reader.frame_ok f) refl
   where
     go : (b : Bool) → reader.frame_ok f ≡ b → reader.frame_ok f ≡ true
     go true q = q
-    go false q = not-both (sym (ap (λ (o : Outline). o.extent) (on-bad (refused_outline 3) outline_of f q)) ∙ v)
+    go false q = let z : Err NoFrame ≡ Ok e = sym (on-bad (Err NoFrame) extent_of f q) ∙ v in cc
 
 -- a valid frame has no more octets behind its first 14 than a place holds, and no group address sent it
-pub spoken : (f : List ℕ) (e : ℕ) → extent_on f ≡ extent-is.Octets e → Spoken (said (reader.source_of f) (take e (drop 14 f)))
+pub spoken : (f : List ℕ) (e : ℕ) → extent_on f ≡ Ok e → Spoken (said (reader.source_of f) (take e (drop 14 f)))
 spoken f e v =
     let q = valid-frame f e v in
-    let x = sym (outline-extent (drop 14 f)) ∙ sym (ap (λ (o : Outline). o.extent) (on-good (refused_outline 3) outline_of f q)) ∙ v in
+    let x = sym (on-good (Err NoFrame) extent_of f q) ∙ v in
     record {
       says = refl;
       station = frame-station f q;
@@ -93,11 +92,11 @@ module _ (s : State) (z : Sized places s) (f : Fit s) (p : ℕ) (low : p < ports
   once = (view-fits s f).once
 
   -- nothing changes but the answer
-  stays : (x : Reply) → reply ports p (says a) (view s) ≡ x → after_frame ports p (says a) (view s) ≡ view s → answers (telling x s)
+  stays : (x : Answered) → reply ports p (says a) (view s) ≡ x → after_frame ports p (says a) (view s) ≡ view s → answers (telling x s)
   stays x e q = record { answer = sym e; seen = sym q; sized = z; good = f.good }
 
   -- place k is written
-  writes : (x : Reply) (k : ℕ) → k < places → (y : Place) → length y.body ≡ size → ok_place y ≡ true → reply ports p (says a) (view s) ≡ x
+  writes : (x : Answered) (k : ℕ) → k < places → (y : Place) → length y.body ≡ size → ok_place y ≡ true → reply ports p (says a) (view s) ≡ x
       → after_frame ports p (says a) (view s) ≡ set (view s) k (place_of y) → answers (telling x (put s k y))
   writes x k l y long ok e q =
       record {
@@ -147,12 +146,12 @@ module _ (s : State) (z : Sized places s) (f : Fit s) (p : ℕ) (low : p < ports
     unfolding heard_at
     known-right = go (eqb a.seconds 0) refl
       where
-        go : (b : Bool) → eqb a.seconds 0 ≡ b → answers (pick b (telling Gone (put s (find s w) free)) (telling Refreshed (put s (find s w) (kept p a))))
+        go : (b : Bool) → eqb a.seconds 0 ≡ b → answers (pick b (telling (Ok Gone) (put s (find s w) free)) (telling (Ok Refreshed) (put s (find s w) (kept p a))))
         go true e =
-            writes Gone (find s w) l free free-long free-ok (told true e true known there refl)
+            writes (Ok Gone) (find s w) l free free-long free-ok (told true e true known there refl)
             (gives true e true known there refl ∙ swapped none ∙ ap (set (view s) (find s w)) (sym (place-free free refl)))
         go false e =
-            writes Refreshed (find s w) l (kept p a) (keep-long p a.seconds a.sender a.octets) (keep-good p a c low (eqb-false a.seconds 0 e)) (told false e true known there refl)
+            writes (Ok Refreshed) (find s w) l (kept p a) (keep-long p a.seconds a.sender a.octets) (keep-good p a c low (eqb-false a.seconds 0 e)) (told false e true known there refl)
             (gives false e true known there refl ∙ swapped (some (recorded p a)) ∙ ap (set (view s) (find s w)) (sym (keep-place p a c)))
 
   -- the identity is new
@@ -194,17 +193,17 @@ module _ (s : State) (z : Sized places s) (f : Fit s) (p : ℕ) (low : p < ports
     new-right = zero_or (eqb a.seconds 0) refl
       where
         go : eqb a.seconds 0 ≡ false → (rm : Room) → there ≡ rm → answers (heard_by_room rm (kept p a) s)
-        go e Loud m = stays (Refused 13) (told false e false new Loud m) (gives false e false new Loud m)
-        go e Full m = stays (Refused 7) (told false e false new Full m) (gives false e false new Full m)
-        go e Taken m = stays (Refused 8) (told false e false new Taken m) (gives false e false new Taken m)
+        go e Loud m = stays (Err ChassisLoud) (told false e false new Loud m) (gives false e false new Loud m)
+        go e Full m = stays (Err PortFull) (told false e false new Full m) (gives false e false new Full m)
+        go e Taken m = stays (Err CommonTaken) (told false e false new Taken m) (gives false e false new Taken m)
         go e Enough m =
             let h = room_for s (parts-fit s f) (count_records s (chassis_is p a.chassis)) p low (sym (room-share s w) ∙ m) in
-            writes Recorded (first_free s.table) h (kept p a) (keep-long p a.seconds a.sender a.octets) (keep-good p a c low (eqb-false a.seconds 0 e))
+            writes (Ok Recorded) (first_free s.table) h (kept p a) (keep-long p a.seconds a.sender a.octets) (keep-good p a c low (eqb-false a.seconds 0 e))
             (told false e false new Enough m)
             (gives false e false new Enough m ∙ taken h ∙ ap (set (view s) (first_free s.table)) (sym (keep-place p a c)))
 
-        zero_or : (b : Bool) → eqb a.seconds 0 ≡ b → answers (pick b (telling UnknownGoodbye s) (heard_by_room there (kept p a) s))
-        zero_or true e = stays UnknownGoodbye (told true e false new there refl) (gives true e false new there refl)
+        zero_or : (b : Bool) → eqb a.seconds 0 ≡ b → answers (pick b (telling (Ok UnknownGoodbye) s) (heard_by_room there (kept p a) s))
+        zero_or true e = stays (Ok UnknownGoodbye) (told true e false new there refl) (gives true e false new there refl)
         zero_or false e = go e there refl
 
   pub saying-right : answers (heard_saying p a s)
@@ -224,19 +223,19 @@ module _ (s : State) (e : fit s ≡ true) (p : ℕ) (f : List ℕ) where
   in-ports h = rw (e, lt-ltb p ports h)
 
   -- a port above the last changes nothing, and neither does a frame that the reader refuses
-  pub out-of-ports : ports ≤ p → heard p f s ≡ telling (Refused 2) s
+  pub out-of-ports : ports ≤ p → heard p f s ≡ telling (Err NoPort) s
   unfolding heard
   out-of-ports h = rw (e, le-ltb p ports h)
 
 module _ (s : State) (z : Sized places s) (f : Fit s) (p : ℕ) where
-  no-port : (x : Heard) → ports ≤ p → Right s p x (telling (Refused 2) s)
+  no-port : (x : Heard) → ports ≤ p → Right s p x (telling (Err NoPort) s)
   no-port x h = record { answer = sym (no-reply ports (view s) p x h); seen = sym (no-frame ports (view s) p x h); sized = z; good = f.good }
 
   on-port : (frame : List ℕ) → p < ports → (x : Extent) → extent_on frame ≡ x
       → Right s p (heard_in x (reader.source_of frame) (drop 14 frame)) (on_heard (heard_in x (reader.source_of frame) (drop 14 frame)) p s)
-  on-port frame h (extent-is.Refused k) v =
+  on-port frame h (Err k) v =
       record { answer = sym (unread-reply ports (view s) p k h); seen = sym (unread-frame ports (view s) p k); sized = z; good = f.good }
-  on-port frame h (extent-is.Octets e) v = saying-right s z f p h (said (reader.source_of frame) (take e (drop 14 frame))) (spoken frame e v)
+  on-port frame h (Ok e) v = saying-right s z f p h (said (reader.source_of frame) (take e (drop 14 frame))) (spoken frame e v)
 
   pub frame_right : (frame : List ℕ) → Right s p (heard_of frame) (heard p frame s)
   unfolding heard_of

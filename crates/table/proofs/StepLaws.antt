@@ -10,8 +10,10 @@ use borrow.Author.Tests.{eq-eqb, lt-ltb, le-ltb, ltb-true, ltb-false}
 use lib.Dec.{ltb}
 use lib.ListN.{length, take, drop, replicate, length-replicate, get_or-replicate, length-drop}
 use lib.Seq.{ext_get_or, get_or-take, get_or-drop, length-take-le}
+use Rattle.std.specs.Prelude.{Ok, Err}
 use Rattle.tally.specs.Tab.{tab}
 use Rattle.tally.proofs.TabLaws.{tab-same}
+use Rattle.refusal.specs.declared.Refusal.TheVariants.{NoPort}
 use Rattle.rules.specs.Events as event
 use Rattle.rules.specs.Events.{Event}
 use Rattle.rules.specs.Model as model
@@ -28,7 +30,6 @@ use Rattle.freeing.specs.Changes.{aged, lost}
 use Rattle.freeing.specs.Calls.{answered, state_after, started, passed, link_lost}
 use Rattle.hearing.specs.Frame.{heard_of, state_told, heard}
 use Rattle.fitness.specs.View.{place_of, view}
-use Rattle.freeing.specs.declared.Answer.TheVariants.{Done, Refused}
 use Rattle.fitness.proofs.ViewLaws.{place-free, placed, view-fits, fit-view}
 use Rattle.fitness.proofs.FitLaws.{parts-fit}
 use Rattle.fitness.proofs.KeepLaws.{free-ok}
@@ -117,7 +118,7 @@ start-fit s e = rw (eq-eqb (length s.buf) octets e) (record { kept = empty-kept;
 -- A call on a fit table
 
 module _ (s : State) (k : Kept s) where
-  pub passed_is : (n : ℕ) → passed n s ≡ answered Done (each (aged n) places s)
+  pub passed_is : (n : ℕ) → passed n s ≡ answered (Ok tt) (each (aged n) places s)
   unfolding passed
   passed_is n = rw (kept-fit s k)
 
@@ -129,11 +130,11 @@ module _ (s : State) (k : Kept s) where
       (each-good s k.sized (aged n) (changed-long _) (aged-ok n) k.fit.good)
       (each-view s k.sized (aged n) (changed-long _) (tick n) (aged-place n)))
 
-  pub lost-is : (p : ℕ) → p < ports → link_lost p s ≡ answered Done (each (lost p) places s)
+  pub lost-is : (p : ℕ) → p < ports → link_lost p s ≡ answered (Ok tt) (each (lost p) places s)
   unfolding link_lost
   lost-is p l = rw (kept-fit s k, lt-ltb p ports l)
 
-  pub lost-out : (p : ℕ) → ports ≤ p → link_lost p s ≡ answered (Refused 2) s
+  pub lost-out : (p : ℕ) → ports ≤ p → link_lost p s ≡ answered (Err NoPort) s
   unfolding link_lost
   lost-out p l = rw (kept-fit s k, le-ltb p ports l)
 

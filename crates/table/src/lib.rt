@@ -3,10 +3,11 @@
 #![tactic(auto)]
 
 pub use fitness::is_fit;
-pub use freeing::{Answer, Outcome, empty_table, link_lost, seconds_passed, start};
+pub use freeing::{Outcome, empty_table, link_lost, seconds_passed, start};
 pub use hearing::{Reception, frame_on_port};
 pub use naming::Number;
 pub use numbers::{PLACES, Sender, Table};
 pub use place::OCTETS;
-pub use questions::{Count, Sight, how_many, who_sees};
+pub use questions::{Sight, how_many, who_sees};
+pub use refusal::Refusal;
 pub use rules::Reply;

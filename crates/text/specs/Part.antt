@@ -1,12 +1,10 @@
 -- A part of a text, and its octets; a part that may be absent; then up to four parts, in order.
 -- Of a part that reaches past the text there is as much as the text has.
-use Rattle.std.specs.Prelude.{ℕ, ◌+◌, List, map, take, drop, set, replicate, ltb}
+use Rattle.std.specs.Prelude.{ℕ, ◌+◌, List, map, take, drop, set, replicate, ltb, Option as CodeOption, Some, None}
 use Rattle.std.proofs.Math.Option.{Option, none, some}
 use Rattle.tally.specs.Tests.{pick}
 use Rattle.text.specs.declared.Part.{Part}
 use Rattle.text.specs.declared.Parts.{Parts}
-use Rattle.text.specs.declared.Optional.{Optional}
-use Rattle.text.specs.declared.Optional.TheVariants.{Absent, Present}
 
 abbrev pub part : ℕ → ℕ → Part
 part start len = record { start = start; len = len }
@@ -19,9 +17,9 @@ abbrev pub nowhere : Part
 nowhere = part 0 0
 
 -- an absent part differs from an empty one (A3)
-abbrev pub optional_text : List ℕ → Optional → Option (List ℕ)
-optional_text s Absent = none
-optional_text s (Present p) = some (text_of s p)
+abbrev pub optional_text : List ℕ → CodeOption Part → Option (List ℕ)
+optional_text s None = none
+optional_text s (Some p) = some (text_of s p)
 
 -- Several parts: those below the count, of the four that there is room for
 

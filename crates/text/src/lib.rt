@@ -1,4 +1,4 @@
-// A part of a text: where it starts and how many octets it has, and the octets themselves; a part that may be absent; and up to four parts, in order.
+// A part of a text: where it starts and how many octets it has, and the octets themselves; and up to four parts, in order.
 // What was read, and what is to be written or printed, are parts of a text that is lent beside them.
 #![tactic(auto)]
 
@@ -25,13 +25,6 @@ pub fn text_of(s: &[u8], p: Part) -> &[u8]
     }
     let end = start + len;
     &s[start..end]
-}
-
-// A part that may be absent, which is not the same as an empty one (A3).
-#[derive(Clone, Copy)]
-pub enum Optional {
-    Absent,
-    Present(Part),
 }
 
 // The most parts that are kept in order (S5).

@@ -22,32 +22,32 @@ use Rattle.tlvs.proofs.put_table.Reads as table
 use Rattle.tlvs.proofs.put_listed.Kinds as listed-kinds
 use Rattle.tlvs.proofs.put_listed.Reads as listed
 
-pub put-head-sole : SolePut 1 head-kinds.ps head-kinds.r head.Post (λ κs x. x.0.now)
+pub put-head-sole : SolePut 2 head-kinds.ps head-kinds.r head.Post (λ κs x. x.0.now)
 put-head-sole κs a r q x y = same-put
 
-pub put-id-sole : SolePut 2 id-kinds.ps id-kinds.r id.Post (λ κs x. x.0.now)
+pub put-id-sole : SolePut 3 id-kinds.ps id-kinds.r id.Post (λ κs x. x.0.now)
 put-id-sole κs a r q x y = same-put
 
-pub put-seconds-sole : SolePut 1 seconds-kinds.ps seconds-kinds.r seconds.Post (λ κs x. x.0.now)
+pub put-seconds-sole : SolePut 2 seconds-kinds.ps seconds-kinds.r seconds.Post (λ κs x. x.0.now)
 put-seconds-sole κs a r q x y = same-put
 
-pub put-tlv-sole : SolePut 2 tlv-kinds.ps tlv-kinds.r tlv.Post (λ κs x. x.0.now)
+pub put-tlv-sole : SolePut 3 tlv-kinds.ps tlv-kinds.r tlv.Post (λ κs x. x.0.now)
 put-tlv-sole κs a r q x y = same-put
 
-pub put-string-sole : SolePut 2 string-kinds.ps string-kinds.r string.Post (λ κs x. x.0.now)
+pub put-string-sole : SolePut 3 string-kinds.ps string-kinds.r string.Post (λ κs x. x.0.now)
 put-string-sole κs a r q x y = same-put
 
-pub put-flags-sole : SolePut 1 flags-kinds.ps flags-kinds.r flags.Post (λ κs x. x.0.now)
+pub put-flags-sole : SolePut 2 flags-kinds.ps flags-kinds.r flags.Post (λ κs x. x.0.now)
 put-flags-sole κs a r q x y = same-put
 
-pub put-device-sole : SolePut 2 device-kinds.ps device-kinds.r device.Post (λ κs x. x.0.now)
+pub put-device-sole : SolePut 3 device-kinds.ps device-kinds.r device.Post (λ κs x. x.0.now)
 put-device-sole κs a r q x y = same-put
 
-pub put-table-sole : SolePut 4 table-kinds.ps table-kinds.r table.Post (λ κs x. x.0.now)
+pub put-table-sole : SolePut 5 table-kinds.ps table-kinds.r table.Post (λ κs x. x.0.now)
 put-table-sole κs a r q x y = same-put
 
-pub put-extended-sole : SolePut 2 extended-kinds.ps extended-kinds.r extended.Post (λ κs x. x.0.now)
+pub put-extended-sole : SolePut 3 extended-kinds.ps extended-kinds.r extended.Post (λ κs x. x.0.now)
 put-extended-sole κs a r q x y = same-put
 
-pub put-listed-sole : SolePut 2 listed-kinds.ps listed-kinds.r listed.Post (λ κs x. x.0.now)
+pub put-listed-sole : SolePut 3 listed-kinds.ps listed-kinds.r listed.Post (λ κs x. x.0.now)
 put-listed-sole κs a r q x y = same-put

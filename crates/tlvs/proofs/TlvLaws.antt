@@ -1,6 +1,6 @@
 -- Laws of one TLV: its octets as the code puts them.
 -- The code has the counts in hand; the definitions count the octets of an information string.
-use Prim.Native.Nat.{ℕ, suc, ◌+◌, ◌/◌, ◌<◌, ◌≤◌}
+use Prim.Native.Nat.{ℕ, ◌+◌, ◌/◌, ◌<◌, ◌≤◌}
 use mathlib.Core.Path.{◌≡◌, refl, sym, ap, ◌∙◌}
 use mathlib.Core.List.{List, [], ◌∷◌, ◌++◌, append-nil, append_assoc}
 use mathlib.Core.Option.{none, some}
@@ -11,10 +11,9 @@ use lib.ListN.{length, get_or, length-append}
 use Rattle.tally.specs.Tests.{pick}
 use Rattle.tally.proofs.TestsLaws.{all-fails}
 use Rattle.octets.specs.Header.{high, low}
-use Rattle.ids.specs.Id.{id}
 use Rattle.walk.specs.Walk.{Tlv}
 use Rattle.found.specs.Contents.{LinkInfo}
-use Rattle.tlvs.specs.Tlvs.{written, octets_of, id_tlv, device_tlv, link_content, link_tlv, extension_tlv, list_tlv, unless_empty, if_linked, if_listed, countable, link_counts, countable_link, countable_list}
+use Rattle.tlvs.specs.Tlvs.{written, octets_of, device_tlv, link_content, link_tlv, list_tlv, unless_empty, if_linked, if_listed, countable, link_counts, countable_link, countable_list}
 
 -- One TLV, and none
 
@@ -54,11 +53,6 @@ device-written id x =
     let m : 6 + length x ≡ length (device_tlv id x).body = omega arith in
     ap (λ (k : ℕ). high 127 k ∷ low k ∷ 0xE0 ∷ 0x27 ∷ 0x1A ∷ 1 ∷ id ∷ length x ∷ x) m
 
-pub extension-written : (x : List ℕ) → ttc_head 4 (4 + length x) ++ x ≡ written (extension_tlv x)
-extension-written x =
-    let m : 4 + length x ≡ length (extension_tlv x).body = omega arith in
-    ap (λ (k : ℕ). high 127 k ∷ low k ∷ 0xE0 ∷ 0x27 ∷ 0x1A ∷ 4 ∷ x) m
-
 pub list_written : (a : List ℕ) → ttc_head 3 (5 + length a) ++ (length a / 6 ∷ a) ≡ octets_of (if_listed (some a))
 list_written a =
     let m : 5 + length a ≡ length (list_tlv a).body = omega arith in
@@ -81,11 +75,6 @@ module _ (l : LinkInfo) where
   link-written =
       let e : 7 + n + m + k ≡ length (link_tlv l).body = omega (arith, link-length) in
       ap (λ (z : ℕ). high 127 z ∷ low z ∷ 0xE0 ∷ 0x27 ∷ 0x1A ∷ 2 ∷ link_content l) e ∙ sym (one-octets (link_tlv l))
-
-pub id-written : (kind subtype : ℕ) {x y : List ℕ} → x ≡ y → (high kind (1 + length x) ∷ low (1 + length x) ∷ subtype ∷ x) ≡ written (id_tlv kind (id subtype y))
-id-written kind subtype {x} q =
-    let m : 1 + length x ≡ suc (length x) = omega arith in
-    ap (λ (k : ℕ). high kind k ∷ low k ∷ subtype ∷ x) m ∙ ap (λ (l : List ℕ). written (id_tlv kind (id subtype l))) q
 
 -- What an octet can count, of a string x that the code has in hand for y
 

@@ -5,44 +5,45 @@ use mathlib.Core.Path.{◌≡◌, refl, sym, ap, ◌∙◌}
 use mathlib.Core.List.{List, [], ◌∷◌}
 use mathlib.Core.Bool.{Bool, true, false}
 use native.Mathlib.Omega.{arith}
-use native.Mathlib.Numerals.{add-one, add-two}
 use native.Mathlib.Nat.{add-zero}
 use borrow.Author.Tests.{ne_eqb, le-leb, lt-leb, leb-true}
 use lib.ListN.{length, take, drop, get_or, length-drop}
-use lib.Seq.{drop-cons, drop-drop}
+use lib.Seq.{drop-drop, take_all}
 use lib.Dec.{leb, ltb, eqb}
 use Rattle.tally.specs.Tests.{pick, both}
 use Rattle.octets.specs.Header.{kind_in, length_in}
-use Rattle.walk.specs.Walk.{head_of, step_of, on_step, walk}
+use Rattle.std.specs.Prelude.{Option, Some, None, Result, Ok, Err}
+use Rattle.std.specs.Option.{ok_or}
+use Rattle.refusal.specs.declared.Refusal.{Refusal}
+use Rattle.refusal.specs.declared.Refusal.TheVariants.{RunsPast, OutOfPlace}
+use Rattle.walk.specs.Walk.{header, head_of, step_of, on_step, walk}
 use Rattle.walk.specs.declared.Head.{Head}
-use Rattle.walk.specs.declared.Head.TheVariants.{Short, Whole}
-use Rattle.walk.specs.declared.Step.TheVariants as step
-use Rattle.walk.specs.declared.Extent.TheVariants.{Refused, Octets}
+use Rattle.walk.specs.declared.Step.TheVariants.{End, Next}
 
 -- The header at a place
 
-two_at : (s : List ℕ) (at : ℕ) → at + 2 ≤ length s → drop at s ≡ get_or s at 0 ∷ get_or s (at + 1) 0 ∷ drop (at + 2) s
-two_at s at h = rw (add-two, add-one, drop-cons s at 0 (omega arith), drop-cons s (suc at) 0 (omega arith))
-
-pub head-short : (l : List ℕ) → length l < 2 → head_of l ≡ Short
+pub head-short : (l : List ℕ) → length l < 2 → head_of l ≡ None
 unfolding head_of
 head-short [] h = refl
 head-short (x ∷ []) h = refl
 head-short (x ∷ y ∷ r) h = absurd (omega arith)
 
--- what the code has read of the header at a place
-module _ (s : List ℕ) (at kind len : ℕ) (h : at + 2 ≤ length s) (p : kind ≡ kind_in (get_or s at 0)) (q : len ≡ length_in (get_or s at 0) (get_or s (at + 1) 0)) where
-  head-two : head_of (drop at s) ≡ pick (leb len (length s - at - 2)) (Whole kind len) Short
-  unfolding head_of
-  head-two =
-      let e : length (drop (at + 2) s) ≡ length s - at - 2 = length-drop (at + 2) s ∙ omega arith in
-      rw (two_at s at h, e, p, q)
+-- what the code has read of the header in front, and what is behind it
+head-two : (l : List ℕ) {kind len : ℕ} → 2 ≤ length l → kind ≡ kind_in (get_or l 0 0) → len ≡ length_in (get_or l 0 0) (get_or l 1 0)
+    → head_of l ≡ pick (leb len (length (take (length l - 2) (drop 2 l)))) (Some (header kind len)) None
+unfolding head_of
+head-two [] h p q = absurd (omega arith)
+head-two (x ∷ []) h p q = absurd (omega arith)
+head-two (hi ∷ lo ∷ r) h p q =
+    let e : length (take (length (hi ∷ lo ∷ r) - 2) r) ≡ length r = ap length (take_all (length (hi ∷ lo ∷ r) - 2) r (omega arith)) in
+    rw (p, q, e)
 
-  pub head-whole : len ≤ length s - at - 2 → Whole kind len ≡ head_of (drop at s)
-  head-whole f = sym (head-two ∙ rw (le-leb len (length s - at - 2) f))
+module _ (l : List ℕ) {kind len : ℕ} (h : 2 ≤ length l) (p : kind ≡ kind_in (get_or l 0 0)) (q : len ≡ length_in (get_or l 0 0) (get_or l 1 0)) where
+  pub head-whole : len ≤ length (take (length l - 2) (drop 2 l)) → Some (header kind len) ≡ head_of l
+  head-whole f = sym (head-two l h p q ∙ rw (le-leb len _ f))
 
-  pub head-long : length s - at - 2 < len → Short ≡ head_of (drop at s)
-  head-long f = sym (head-two ∙ rw (lt-leb len (length s - at - 2) f))
+  pub head-long : length (take (length l - 2) (drop 2 l)) < len → None ≡ head_of l
+  head-long f = sym (head-two l h p q ∙ rw (lt-leb len _ f))
 
 -- a whole TLV: its two octets, and that its information string is there
 pub record IsWhole (l : List ℕ) (kind len : ℕ) : Type 0 where
@@ -50,51 +51,65 @@ pub record IsWhole (l : List ℕ) (kind len : ℕ) : Type 0 where
   pub len_is : length_in (get_or l 0 0) (get_or l 1 0) ≡ len
   pub fits : 2 + len ≤ length l
 
-pub whole : (l : List ℕ) (kind len : ℕ) → head_of l ≡ Whole kind len → IsWhole l kind len
+pub whole : (l : List ℕ) (kind len : ℕ) → head_of l ≡ Some (header kind len) → IsWhole l kind len
 unfolding head_of
-whole [] kind len e = let z : ◌≡◌ {A = ℕ} 0 1 = cc in absurd (omega arith)
-whole (hi ∷ []) kind len e = let z : ◌≡◌ {A = ℕ} 0 1 = cc in absurd (omega arith)
+whole [] kind len e = absurd (cc)
+whole (hi ∷ []) kind len e = absurd (cc)
 whole (hi ∷ lo ∷ r) kind len e = go (leb (length_in hi lo) (length r)) refl e
   where
-    go : (b : Bool) → leb (length_in hi lo) (length r) ≡ b → pick b (Whole (kind_in hi) (length_in hi lo)) Short ≡ Whole kind len → IsWhole (hi ∷ lo ∷ r) kind len
+    go : (b : Bool) → leb (length_in hi lo) (length r) ≡ b → pick b (Some (header (kind_in hi) (length_in hi lo))) None ≡ Some (header kind len) → IsWhole (hi ∷ lo ∷ r) kind len
     go true t q =
-        let p : length_in hi lo ≡ len = cc in
-        record { kind-is = cc; len_is = p; fits = omega (arith, leb-true (length_in hi lo) (length r) t) }
-    go false t q = let z : ◌≡◌ {A = ℕ} 0 1 = cc in absurd (omega arith)
+        let p : header (kind_in hi) (length_in hi lo) ≡ header kind len = cc in
+        let n = ap (λ (h : Head). h.len) p in
+        record { kind-is = ap (λ (h : Head). h.kind) p; len_is = n; fits = omega (arith, n, leb-true (length_in hi lo) (length r) t) }
+    go false t q = absurd (cc)
 
-pub is_whole : (l : List ℕ) (kind len : ℕ) → IsWhole l kind len → head_of l ≡ Whole kind len
+pub is_whole : (l : List ℕ) (kind len : ℕ) → IsWhole l kind len → head_of l ≡ Some (header kind len)
 unfolding head_of
 is_whole [] kind len i = absurd (omega arith)
 is_whole (hi ∷ []) kind len i = absurd (omega arith)
 is_whole (hi ∷ lo ∷ r) kind len i = rw (i.kind-is, i.len_is, le-leb len (length r) (omega arith))
 
-pub whole-fits : (s : List ℕ) (at : ℕ) {kind len : ℕ} → head_of (drop at s) ≡ Whole kind len → at + 2 + len ≤ length s
+pub whole-fits : (s : List ℕ) (at : ℕ) {kind len : ℕ} → head_of (drop at s) ≡ Some (header kind len) → at + 2 + len ≤ length s
 whole-fits s at {kind} {len} e = omega (arith, (whole (drop at s) kind len e).fits, length-drop at s)
 
+-- the header h, by what `ok_or` made of it
+module _ {h r : Option Head} (p : r ≡ h) {d : Result Head Refusal} (q : d ≡ ok_or r RunsPast) where
+  pub head-some : {x : Head} → d ≡ Ok x → h ≡ Some x
+  head-some e = grind arith
+
+  pub head-none : {y : Refusal} → d ≡ Err y → (h ≡ None) × (y ≡ RunsPast)
+  head-none e = (grind arith, grind arith)
+
+pub ruleset read = (head-some, head-none)
+
 -- behind the first three, types 4 to 126 are passed whatever their length (L9)
-pub other-passed : (kind len at : ℕ) → 3 < kind → kind < 127 → step_of (Whole kind len) at ≡ step.Next kind (at + 2) len
+pub other-passed : (kind len at : ℕ) → 3 < kind → kind < 127 → step_of (Some (header kind len)) at ≡ Ok (Next kind (at + 2) len)
 unfolding step_of
 other-passed kind len at h k = rw (ne_eqb kind 0 (λ e. omega arith), lt-leb kind 3 h, ne_eqb kind 127 (λ e. omega arith))
 
 -- A step that goes on has a whole TLV
 
-pub record Stepped (h : Head) (at kind start len : ℕ) : Type 0 where
-  pub head : h ≡ Whole kind len
+pub record Stepped (h : Option Head) (at kind start len : ℕ) : Type 0 where
+  pub head : h ≡ Some (header kind len)
   pub place : start ≡ at + 2
 
-pub stepped : (h : Head) (at : ℕ) {kind start len : ℕ} → step_of h at ≡ step.Next kind start len → Stepped h at kind start len
+pub stepped : (h : Option Head) (at : ℕ) {kind start len : ℕ} → step_of h at ≡ Ok (Next kind start len) → Stepped h at kind start len
 unfolding step_of
-stepped Short at e = let z : ◌≡◌ {A = ℕ} 0 1 = cc in absurd (omega arith)
-stepped (Whole k n) at {kind} {start} {len} e = go (eqb k 0) (eqb n 0) (leb k 3) (both (eqb k 127) (ltb n 4)) e
+stepped None at e = absurd (cc)
+stepped (Some h) at {kind} {start} {len} e = go (eqb h.kind 0) (eqb h.len 0) (leb h.kind 3) (both (eqb h.kind 127) (ltb h.len 4)) e
   where
     go : (a b c d : Bool)
-        → pick a (pick b (step.End (at + 2)) (step.Refused 6)) (pick c (step.Refused 6) (pick d (step.Refused 6) (step.Next k (at + 2) n))) ≡ step.Next kind start len
-        → Stepped (Whole k n) at kind start len
-    go true true c d q = let z : ◌≡◌ {A = ℕ} 0 1 = cc in absurd (omega arith)
-    go true false c d q = let z : ◌≡◌ {A = ℕ} 0 1 = cc in absurd (omega arith)
-    go false b true d q = let z : ◌≡◌ {A = ℕ} 0 1 = cc in absurd (omega arith)
-    go false b false true q = let z : ◌≡◌ {A = ℕ} 0 1 = cc in absurd (omega arith)
-    go false b false false q = record { head = cc; place = cc }
+        → pick a (pick b (Ok (End (at + 2))) (Err OutOfPlace)) (pick c (Err OutOfPlace) (pick d (Err OutOfPlace) (Ok (Next h.kind (at + 2) h.len)))) ≡ Ok (Next kind start len)
+        → Stepped (Some h) at kind start len
+    go true true c d q = absurd (cc)
+    go true false c d q = absurd (cc)
+    go false b true d q = absurd (cc)
+    go false b false true q = absurd (cc)
+    go false b false false q =
+        let k : h.kind ≡ kind = cc in
+        let n : h.len ≡ len = cc in
+        record { head = λ i. Some (header (k i) (n i)); place = cc }
 
 -- The walk by places
 
@@ -115,13 +130,13 @@ walk_step (hi ∷ []) at = refl
 walk_step (hi ∷ lo ∷ r) at = ap (on_step (step_of (head_of (hi ∷ lo ∷ r)) at) (take (length_in hi lo) r)) (walk-drop r (length_in hi lo) (at + 2))
 
 module _ (s : List ℕ) (at : ℕ) where
-  pub walk_refused : {n : ℕ} → step_of (head_of (drop at s)) at ≡ step.Refused n → walk (drop at s) 0 at ≡ record { extent = Refused n; tlvs = [] }
+  pub walk_refused : {r : Refusal} → step_of (head_of (drop at s)) at ≡ Err r → walk (drop at s) 0 at ≡ record { extent = Err r; tlvs = [] }
   walk_refused e = walk_step (drop at s) at ∙ rw e
 
-  pub walk_end : {end : ℕ} → step_of (head_of (drop at s)) at ≡ step.End end → walk (drop at s) 0 at ≡ record { extent = Octets end; tlvs = [] }
+  pub walk_end : {end : ℕ} → step_of (head_of (drop at s)) at ≡ Ok (End end) → walk (drop at s) 0 at ≡ record { extent = Ok end; tlvs = [] }
   walk_end e = walk_step (drop at s) at ∙ rw e
 
-  module _ {kind start len : ℕ} (e : step_of (head_of (drop at s)) at ≡ step.Next kind start len) where
+  module _ {kind start len : ℕ} (e : step_of (head_of (drop at s)) at ≡ Ok (Next kind start len)) where
     pub next_fits : start + len ≤ length s
     next_fits =
         let t = stepped (head_of (drop at s)) at e in
@@ -131,8 +146,11 @@ module _ (s : List ℕ) (at : ℕ) where
     next-on = omega (arith, (stepped (head_of (drop at s)) at e).place)
 
     pub walk-next : walk (drop at s) 0 at
-        ≡ on_step (step.Next kind start len) (take len (drop start s)) (walk (drop (start + len) s) 0 (start + len))
+        ≡ on_step (Ok (Next kind start len)) (take len (drop start s)) (walk (drop (start + len) s) 0 (start + len))
     walk-next =
         let t = stepped (head_of (drop at s)) at e in
         let w = whole (drop at s) kind len t.head in
         walk_step (drop at s) at ∙ rw (e, w.len_is, drop-drop 2 at s, drop-drop len (at + 2) s, ← t.place)
+
+-- what a loop over the TLVs cites
+pub ruleset walking = (walk_refused, walk_end, walk-next, next_fits, next-on)

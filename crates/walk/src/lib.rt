@@ -6,78 +6,50 @@ ghost use Rattle.std.specs.Prelude.{◌≡◌, drop};
 ghost use Rattle.walk.specs.Walk.{head_of, step_of};
 
 use octets::{kind_of, len_of};
+use refusal::Refusal;
 
-// Refusals: a TLV runs past the end (R5), a later TLV may not stand where it does (R6).
-pub const RUNS_PAST: u8 = 5;
-
-const OUT_OF_PLACE: u8 = 6;
+// The header of a TLV: its type and L.
+#[derive(Clone, Copy)]
+pub struct Head {
+    pub kind: u8,
+    pub len: usize,
+}
 
 // The header at a place, where header and information string are whole.
-#[derive(Clone, Copy)]
-pub enum Head {
-    Short,
-    Whole { kind: u8, len: usize },
-}
-
-pub fn head_at(s: &[u8], at: usize) -> Head
+pub fn head_at(s: &[u8], at: usize) -> Option<Head>
     ensures { result ≡ head_of (drop at s.now) }
 {
-    if s.len() <= at {
-        return Head::Short;
+    let [hi, lo, body @ ..] = s.get(at..)? else {
+        return None;
+    };
+    let len = len_of(*hi, *lo);
+    if len > body.len() {
+        return None;
     }
-    let left = s.len() - at;
-    if left < 2 {
-        return Head::Short;
-    }
-    let kind = kind_of(s[at]);
-    let len = len_of(s[at], s[at + 1]);
-    if len <= left - 2 {
-        Head::Whole { kind, len }
-    } else {
-        Head::Short
-    }
+    Some(Head {
+        kind: kind_of(*hi),
+        len,
+    })
 }
 
-#[derive(Clone, Copy)]
-pub enum Extent {
-    Refused(u8),
-    Octets(usize),
-}
-
-// What the walk does behind the first three TLVs: it is refused, it is over, or it goes on behind one more TLV.
+// What the walk does behind the first three TLVs where it is not refused: it is over, or it goes on behind one more TLV.
 #[derive(Clone, Copy)]
 pub enum Step {
-    Refused(u8),
     End(usize),
     Next { kind: u8, start: usize, len: usize },
 }
 
 // At one TLV, a header or body that runs past the end comes first (Q1).
-pub fn step_at(s: &[u8], at: usize) -> Step
+#[tactic(auto, using(crate::proofs::WalkLaws::read), unfolding(crate::specs::Walk::step_of))]
+pub fn step_at(s: &[u8], at: usize) -> Result<Step, Refusal>
     ensures { result ≡ step_of (head_of (drop at s.now)) at }
 {
-    match head_at(s, at) {
-        Head::Short => Step::Refused(RUNS_PAST),
-        Head::Whole { kind, len } => {
-            let start = at + 2;
-            match kind {
-                0 => {
-                    if len == 0 {
-                        Step::End(start)
-                    } else {
-                        Step::Refused(OUT_OF_PLACE)
-                    }
-                }
-                1..=3 => Step::Refused(OUT_OF_PLACE),
-                127 => {
-                    if len < 4 {
-                        Step::Refused(OUT_OF_PLACE)
-                    } else {
-                        Step::Next { kind, start, len }
-                    }
-                }
-                _ => Step::Next { kind, start, len },
-            }
-        }
+    let Head { kind, len } = head_at(s, at).ok_or(Refusal::RunsPast)?;
+    let start = at + 2;
+    match kind {
+        0 if len == 0 => Ok(Step::End(start)),
+        0..=3 => Err(Refusal::OutOfPlace),
+        127 if len < 4 => Err(Refusal::OutOfPlace),
+        _ => Ok(Step::Next { kind, start, len }),
     }
 }

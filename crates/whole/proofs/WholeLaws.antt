@@ -7,17 +7,15 @@ use mathlib.Core.Bool.{Bool, true, false}
 use native.Mathlib.Omega.{arith}
 use native.Mathlib.Nat.{le_of_suc-le-suc, not-suc-le-zero}
 use native.Mathlib.Numerals.{add-one}
-use borrow.Author.Tests.{eq-eqb, ne_eqb, eqb-true, eqb-false}
+use borrow.Author.Tests.{ne_eqb, eqb-true, eqb-false}
 use borrow.Rule.Slice.PartMut.{mid_of, put_mid}
-use lib.Bits.{bit_or, bit_xor, or_zero_l, or_add_and, and_le_l, and_le_r, xor_add_and, xor_self}
-use lib.ListN.{length, take, drop, get_or, set, replicate, length-append, length-take, length-replicate, get_or-replicate, take-append-drop, drop_of_length-le}
+use lib.Bits.{bit_or, or_zero_l, or_add_and, and_le_r}
+use lib.ListN.{length, take, drop, get_or, replicate, length-append, length-take, length-replicate, length-drop, get_or-replicate, take-append-drop, drop_of_length-le}
 use lib.Seq.{drop-cons, drop-drop, take-nil, take_all, take_at, take-append_seam, length-take-le}
 use lib.Dec.{eqb}
 use Rattle.tally.specs.Tests.{both}
 use Rattle.tally.proofs.TestsLaws.{both_true, both_end, both_false}
-use Rattle.octets.specs.Address.{same_octets}
 use Rattle.whole.specs.Whole.{zeros, filled}
-use Rattle.octets.proofs.AddressLaws.{same_step, same_end}
 use Rattle.octets.proofs.PartLaws.{rest-becomes}
 
 -- all octets are 0 exactly where there are only zeros
@@ -53,20 +51,13 @@ filled-octet (x ∷ l) (suc n) (suc i) h =
     let e : suc n - suc (length l) ≡ n - length l = omega arith in
     ap (λ (k : ℕ). get_or (take n l ++ replicate k 0) i 0) e ∙ filled-octet l n i (le_of_suc-le-suc h)
 
--- OR is 0 where both are 0, XOR where both are the same
+-- OR is 0 where both are 0
 pub or-zero : (a b : ℕ) → eqb (bit_or a b) 0 ≡ both (eqb a 0) (eqb b 0)
 or-zero a b = go (eqb a 0) refl
   where
     go : (t : Bool) → eqb a 0 ≡ t → eqb (bit_or a b) 0 ≡ both t (eqb b 0)
     go true e = ap (λ (x : ℕ). eqb (bit_or x b) 0) (eqb-true a 0 e) ∙ ap (λ (x : ℕ). eqb x 0) (or_zero_l b)
     go false e = ne_eqb (bit_or a b) 0 (λ z. eqb-false a 0 e (omega (arith, or_add_and a b, and_le_r a b)))
-
-pub xor-zero : (a b : ℕ) → eqb (bit_xor a b) 0 ≡ eqb a b
-xor-zero a b = go (eqb a b) refl
-  where
-    go : (t : Bool) → eqb a b ≡ t → eqb (bit_xor a b) 0 ≡ t
-    go true e = eq-eqb (bit_xor a b) 0 (ap (bit_xor a) (sym (eqb-true a b e)) ∙ xor_self a)
-    go false e = ne_eqb (bit_xor a b) 0 (λ z. eqb-false a b e (omega (arith, xor_add_and a b, and_le_l a b, and_le_r a b)))
 
 both-assoc : (a b c : Bool) → both (both a b) c ≡ both a (both b c)
 both-assoc true b c = refl
@@ -112,27 +103,6 @@ zeros-overlap s from i h e = go (zeros s) refl
         let f : zeros (drop (i - from) (drop from s)) ≡ false = ap zeros (drop-drop (i - from) from s) ∙ ap (λ (j : ℕ). zeros (drop j s)) k ∙ e ∙ q in
         zeros-split (i - from) (drop from s) ∙ ap (both (zeros (take (i - from) (drop from s)))) f ∙ both_false (zeros (take (i - from) (drop from s)))
 
--- one octet more of two strings, with v for what differs in front, and the end
-module _ (v : ℕ) (a b : List ℕ) (i : ℕ) where
-  pub same_more : i < length a → i < length b
-      → both (eqb (bit_or v (bit_xor (get_or a i 0) (get_or b i 0))) 0) (same_octets (drop (i + 1) a) (drop (i + 1) b)) ≡ both (eqb v 0) (same_octets (drop i a) (drop i b))
-  same_more h k =
-      or-more v (bit_xor (get_or a i 0) (get_or b i 0)) (same_octets (drop (i + 1) a) (drop (i + 1) b))
-      ∙ rw (xor-zero (get_or a i 0) (get_or b i 0), same_step a b i h k)
-
-  pub same-all : length a ≤ i → length b ≤ i → both (eqb v 0) (same_octets (drop i a) (drop i b)) ≡ eqb v 0
-  same-all h k = rw (same_end a b i h k) (both_end _)
-
--- a loop that copies s to the front of d
-copy-suc : (n : ℕ) (s d : List ℕ) → n < length s → n < length d → set (take n s ++ drop n d) n (get_or s n 0) ≡ take (suc n) s ++ drop (suc n) d
-copy-suc n [] d l m = absurd (not-suc-le-zero l)
-copy-suc n (x ∷ s) [] l m = absurd (not-suc-le-zero m)
-copy-suc zero (x ∷ s) (y ∷ d) l m = refl
-copy-suc (suc n) (x ∷ s) (y ∷ d) l m = ap (λ (t : List ℕ). x ∷ t) (copy-suc n s d (le_of_suc-le-suc l) (le_of_suc-le-suc m))
-
-pub copy_more : (n : ℕ) (s d : List ℕ) → n < length s → n < length d → set (take n s ++ drop n d) n (get_or s n 0) ≡ take (n + 1) s ++ drop (n + 1) d
-copy_more n s d l m = rw add-one (copy-suc n s d l m)
-
 -- what fits was copied, and the rest of the place came back as zeros
 take-fewer : (m : ℕ) (s : List ℕ) → take (min m (length s)) s ≡ take m s
 take-fewer m s =
@@ -140,10 +110,11 @@ take-fewer m s =
     ∙ ap (take (length (take m s))) (sym (take-append-drop m s))
     ∙ take-append_seam (take m s) (drop m s)
 
-pub filled-end : (d s now ys : List ℕ) (n : ℕ) → n ≡ min (length d) (length s) → length now ≡ length d → now ≡ take n s ++ drop n d
+pub filled-end : (d s now ys : List ℕ) (n : ℕ) → n ≡ min (length d) (length s) → now ≡ take n s ++ drop n d
     → ys ≡ replicate (length (mid_of n (length now - n) now)) 0 → put_mid n (length now - n) now ys ≡ filled s (length d)
 unfolding filled
-filled-end d s now ys n e l w z =
+filled-end d s now ys n e w z =
+    let l : length now ≡ length d = ap (λ (x : List ℕ). length x) w ∙ simp (length-append, length-take, length-drop) (omega arith) in
     let k : length now - n ≡ length d - length s = omega arith in
     let t : take n now ≡ take (length d) s = ap (take n) w ∙ take_at (take n s) (drop n d) n (length-take-le n s (omega arith)) ∙ ap (λ (j : ℕ). take j s) e ∙ take-fewer (length d) s in
     rest-becomes (λ j. replicate j 0) now ys n (omega arith) z ∙ ap₂ (λ (x : List ℕ) (j : ℕ). x ++ replicate j 0) t k

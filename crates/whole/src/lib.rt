@@ -1,8 +1,8 @@
 // Whole strings of octets: all zero, the same, cleared, filled.
-// No early exit octet by octet: octets are joined, so that the compiler takes many at a time.
+// The search for an octet that is not 0 has no early exit octet by octet: octets are joined, so that the compiler takes many at a time.
 #![tactic(auto)]
 
-ghost use Rattle.std.specs.Prelude.{◌≡◌, min, length, replicate};
+ghost use Rattle.std.specs.Prelude.{◌≡◌, length, replicate};
 ghost use Rattle.octets.specs.Address.{same_octets};
 ghost use Rattle.whole.specs.Whole.{zeros, filled};
 
@@ -31,9 +31,9 @@ pub fn all_zero(s: &[u8]) -> bool
 fn part_zero(s: &[u8]) -> bool
     ensures { result ≡ zeros s.now }
 {
-    let mut seen: u8 = 0;
-    for i in 0..s.len() {
-        seen |= s[i];
+    let mut seen = 0;
+    for &x in s {
+        seen |= x;
     }
     seen == 0
 }
@@ -42,38 +42,21 @@ fn part_zero(s: &[u8]) -> bool
 pub fn same(a: &[u8], b: &[u8]) -> bool
     ensures { result ≡ same_octets a.now b.now }
 {
-    if a.len() != b.len() {
-        return false;
-    }
-    let mut differ: u8 = 0;
-    for i in 0..a.len() {
-        differ |= a[i] ^ b[i];
-    }
-    differ == 0
+    a == b
 }
 
 // All octets become 0, as those of a freed place do (N4).
 pub fn clear(s: &mut [u8])
     ensures { s.new ≡ replicate (length s.old) 0 }
 {
-    for i in 0..s.len() {
-        s[i] = 0;
-    }
+    s.fill(0);
 }
 
 // The octets s, as far as they fit, then zeros, as a place keeps an LLDPDU (N3).
 pub fn fill(d: &mut [u8], s: &[u8])
     ensures { d.new ≡ filled s.now (length d.old) }
 {
-    let n = fewer(d.len(), s.len());
-    for i in 0..n {
-        d[i] = s[i];
-    }
+    let n = d.len().min(s.len());
+    d[..n].copy_from_slice(&s[..n]);
     clear(&mut d[n..]);
-}
-
-fn fewer(a: usize, b: usize) -> usize
-    ensures { result ≡ min a b }
-{
-    if a < b { a } else { b }
 }

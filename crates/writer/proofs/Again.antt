@@ -18,32 +18,33 @@ use Rattle.fields.specs.Field.{port_description, category, manufacturer, model_n
 use Rattle.lldpdu.specs.Extent.{port_place, id_at, rest_of, extent_of}
 use Rattle.lldpdu.proofs.ExtentLaws.{good, reads}
 use Rattle.lldpdu.proofs.Stable.{sized}
-use Rattle.walk.specs.declared.Extent.TheVariants as extent-is
 use Rattle.text.specs.Part.{nowhere, most_parts}
 use Rattle.text.specs.declared.Part.{Part}
 use Rattle.text.specs.declared.Parts.{Parts}
 use Rattle.text.proofs.PartsLaws.{front_at}
 use Rattle.found.specs.Contents.{contents, tlvs_in}
-use Rattle.found.specs.Found.{part_at, mark_of}
+use Rattle.found.specs.Found.{part_at, mark_of, htip_in}
 use Rattle.found.proofs.ManagementLaws.{Lists, management-means}
 use Rattle.system.specs.System.{short_at}
 use Rattle.system.proofs.SystemLaws.{short-inside}
-use Rattle.reading.specs.Reading.{link_at, optional_at, found_in, reading_of}
+use Rattle.std.specs.Prelude.{Option, Some, None, Result, Ok, Err}
+use Rattle.refusal.specs.declared.Refusal.{Refusal}
+use Rattle.refusal.specs.declared.Refusal.TheVariants.{BreaksARule, NoRoom}
+use Rattle.lldpdu.specs.Outline.{outline_in}
+use Rattle.reading.specs.Reading.{link_at, optional_at, description_at, found_in, reading_of}
 use Rattle.reader.specs.Frame.{frame_ok, ReadsFrame}
 use Rattle.reader.proofs.Agree.{frame-reads}
 use Rattle.reading.specs.Meaning.{ReaderAnswer, answer_of, said_by, meant, Reads}
 use Rattle.reading.proofs.MeaningLaws.{LinkFits, reading-link-fits, rest_in, marks-inside}
 use Rattle.found.specs.declared.Mark.{Mark}
 use Rattle.reading.specs.declared.Link.{Link}
-use Rattle.reading.specs.declared.Link.TheVariants as link-is
-use Rattle.text.specs.declared.Optional.TheVariants as optional-is
 use Rattle.reading.specs.declared.Description.{Description}
 use Rattle.reading.specs.declared.Reading.{Reading}
 use Rattle.announcement.specs.Encode.{encode}
 use Rattle.parts.specs.Inside.{part_inside, parts_inside, link_inside, optional_inside, all_inside}
 use Rattle.parts.proofs.InsideLaws.{asked, asked_is, asked-all}
 use Rattle.description.specs.Rules.{sound_of}
-use Rattle.writer.specs.Write.{keeps, write_of, octets_written, over, Writes}
+use Rattle.writer.specs.Write.{Written, keeps, write_of, octets_written, over, Writes}
 use Rattle.writer.proofs.RoundTrip.{answered, read_back, good-written}
 use Rattle.reading.proofs.read_lldpdu.Kinds as lldpdu-kinds
 use Rattle.reading.proofs.read_lldpdu.Reads as read-lldpdu
@@ -51,8 +52,6 @@ use Rattle.reader.proofs.read_frame.Kinds as frame-kinds
 use Rattle.reader.proofs.read_frame.Reads as read-frame
 use Rattle.writer.proofs.write.Kinds as write-kinds
 use Rattle.writer.proofs.write.Reads as write
-use Rattle.writer.specs.declared.Written.{Written}
-use Rattle.writer.specs.declared.Written.TheVariants.{Octets, Refused}
 
 -- What the contracts state, as the toolchain reads them from the source: these records, of which all below speaks
 
@@ -76,7 +75,7 @@ pub record Done (s : List ℕ) (d : Description) (n : ℕ) : Type 0 where
   pub count : n ≡ length (encode (said_by s d))
   pub short : n ≤ 1500
 
-done : (s : List ℕ) (d : Description) (room n : ℕ) → write_of s d room ≡ Octets n → Done s d n
+done : (s : List ℕ) (d : Description) (room n : ℕ) → write_of s d room ≡ Ok n → Done s d n
 unfolding write_of keeps
 done s d room n e =
     go (all_inside (length s) d) refl (sound_of (said_by s d)) refl (leb size 1500) refl (leb size room) refl e
@@ -86,7 +85,7 @@ done s d room n e =
 
     go : (a : Bool) → all_inside (length s) d ≡ a → (b : Bool) → sound_of (said_by s d) ≡ b → (c : Bool) → leb (length (encode (said_by s d))) 1500 ≡ c
         → (f : Bool) → leb (length (encode (said_by s d))) room ≡ f
-        → pick (both (both a b) c) (pick f (Octets (length (encode (said_by s d)))) (Refused 10)) (Refused 9) ≡ Octets n
+        → pick (both (both a b) c) (pick f (Ok (length (encode (said_by s d)))) (Err NoRoom)) (Err BreaksARule) ≡ Ok n
         → Done s d n
     go true p true q true r true v w =
         let x : length (encode (said_by s d)) ≡ n = cc in
@@ -96,25 +95,25 @@ done s d room n e =
           count = sym x;
           short = omega (arith, leb-true (length (encode (said_by s d))) 1500 r);
         }
-    go true p true q true r false v w = let z : ◌≡◌ {A = ℕ} 0 1 = cc in absurd (omega arith)
-    go true p true q false r f v w = let z : ◌≡◌ {A = ℕ} 0 1 = cc in absurd (omega arith)
-    go true p false q c r f v w = let z : ◌≡◌ {A = ℕ} 0 1 = cc in absurd (omega arith)
-    go false p b q c r f v w = let z : ◌≡◌ {A = ℕ} 0 1 = cc in absurd (omega arith)
+    go true p true q true r false v w = cc
+    go true p true q false r f v w = cc
+    go true p false q c r f v w = cc
+    go false p b q c r f v w = cc
 
 -- The parts of what was read lie inside it
 
 part-fits : (n : ℕ) (p : Part) → p.start + p.len ≤ n → part_inside n p ≡ true
 part-fits n p h = rw (le-leb p.start n (omega arith), le-leb p.len (n - p.start) (omega arith))
 
-link-inside : (n : ℕ) (l : Link) → LinkFits n l → link_inside n l ≡ true
-link-inside n link-is.Absent h = refl
-link-inside n (link-is.Table i p a) h = rw (part-fits n i h.0, part-fits n p h.1.0, part-fits n a h.1.1)
+link-inside : (n : ℕ) (l : Option Link) → LinkFits n l → link_inside n l ≡ true
+link-inside n None h = refl
+link-inside n (Some l) h = rw (part-fits n l.interface h.0, part-fits n l.port h.1.0, part-fits n l.addresses h.1.1)
 
 optional-inside : (n : ℕ) (m : Mark) → m.start + m.len ≤ n → optional_inside n (optional_at m) ≡ true
 unfolding optional_at
 optional-inside n m h = go (eqb m.times 0)
   where
-    go : (b : Bool) → optional_inside n (pick b optional-is.Absent (optional-is.Present (part_at m))) ≡ true
+    go : (b : Bool) → optional_inside n (pick b None (Some (part_at m))) ≡ true
     go true = refl
     go false = part-fits n (part_at m) h
 
@@ -125,8 +124,16 @@ parts-inside s l cs i =
     let each = all-each (asked n l) l.count (λ k h. asked_is n l k (sym (front_at l k h)) (sym (part-fits n (get_or l.parts k nowhere) (i.inside k)))) in
     rw (le-leb l.count most_parts i.few) (sym (asked-all n l i.long i.few) ∙ each)
 
-reading-inside : (s : List ℕ) (e : ℕ) → extent_of s ≡ extent-is.Octets e → all_inside (length s) (reading_of s).description ≡ true
-unfolding all_inside reading_of
+-- what is read of an LLDPDU of e octets
+abbrev read_as : List ℕ → ℕ → Reading
+read_as s e = record { octets = e; htip = htip_in (found_in s); description = description_at s (outline_in e s) (found_in s) }
+
+reading-is : (s : List ℕ) (e : ℕ) → extent_of s ≡ Ok e → reading_of s ≡ Ok (read_as s e)
+unfolding reading_of
+reading-is s e v = rw v
+
+reading-inside : (s : List ℕ) (e : ℕ) → extent_of s ≡ Ok e → all_inside (length s) (read_as s e).description ≡ true
+unfolding all_inside
 reading-inside s e v =
     let z = sized (good s e v) in
     let m : (t : ℕ) → t < topics → part_inside (length s) (part_at (mark_of t (found_in s))) ≡ true =
@@ -134,7 +141,6 @@ reading-inside s e v =
     let string : (t : ℕ) → t < topics → part_inside (length s) (short_at (mark_of t (found_in s))) ≡ true =
     λ t h. part-fits (length s) (short_at (mark_of t (found_in s))) (short-inside (length s) (mark_of t (found_in s)) (marks-inside s t h)) in
     rw (
-      v,
       part-fits (length s) (id_at s 0).octets (omega (arith, z)),
       part-fits (length s) (id_at s (port_place s)).octets (omega (arith, z)),
       m port_description (omega arith),
@@ -153,7 +159,7 @@ reading-inside s e v =
 -- The two sentences
 
 -- `write` was called with d over s and wrote n octets to the front of out, which is now `now`
-module _ (s : List ℕ) (d : Description) (out now : List ℕ) (n : ℕ) (w : Writes s d out (Octets n) now) where
+module _ (s : List ℕ) (d : Description) (out now : List ℕ) (n : ℕ) (w : Writes s d out (Ok n) now) where
   wrote : Done s d n
   wrote = done s d (length out) n (sym w.exact)
 
@@ -166,12 +172,12 @@ module _ (s : List ℕ) (d : Description) (out now : List ℕ) (n : ℕ) (w : Wr
   -- `write` of any description that says the same over a text u, with its parts inside u, writes the same octets into an output with room
   again : (u : List ℕ) (e : Description) → all_inside (length u) e ≡ true → said_by u e ≡ said_by s d
       → (out₂ now₂ : List ℕ) (r₂ : Written) → Writes u e out₂ r₂ now₂ → n ≤ length out₂
-      → (r₂ ≡ Octets n) × (take n now₂ ≡ take n now)
+      → (r₂ ≡ Ok n) × (take n now₂ ≡ take n now)
   unfolding write_of keeps
   again u e i v out₂ now₂ r₂ w₂ h =
       let x = encode (said_by s d) in
       let c = wrote.count in
-      let a : r₂ ≡ Octets n = w₂.exact ∙ rw (i, v, wrote.sound, ← c, le-leb n 1500 wrote.short, le-leb n (length out₂) h) in
+      let a : r₂ ≡ Ok n = w₂.exact ∙ rw (i, v, wrote.sound, ← c, le-leb n 1500 wrote.short, le-leb n (length out₂) h) in
       let o : now₂ ≡ take n x ++ drop n out₂ =
       w₂.output ∙ ap₂ (λ (k : ℕ) (y : List ℕ). over k y out₂) (ap octets_written a) (ap encode v) in (
         a,
@@ -179,32 +185,42 @@ module _ (s : List ℕ) (d : Description) (out now : List ℕ) (n : ℕ) (w : Wr
       )
 
   -- what was read of any text u that starts with these octets: the same description, of n octets, and HTIP exactly with seconds above 0
-  module _ (u t : List ℕ) (b : u ≡ encode (said_by s d) ++ t) {q : Reading} (r : Reads u q) where
+  module _ (u t : List ℕ) (b : u ≡ encode (said_by s d) ++ t) {q : Result Reading Refusal} (r : Reads u q) where
     read_same : meant u q ≡ answered (said_by s d)
     read_same = r.means ∙ ap answer_of b ∙ read_back (said_by s d) t wrote.sound
 
-    said_same : said_by u q.description ≡ said_by s d
-    said_same = ap (λ (a : ReaderAnswer). a.said) read_same
-
-    extent-is-n : extent_of u ≡ extent-is.Octets (length (encode (said_by s d)))
+    extent-is-n : extent_of u ≡ Ok (length (encode (said_by s d)))
     extent-is-n = ap extent_of b ∙ reads (encode (said_by s d) ++ t) (length (encode (said_by s d))) (good-written (said_by s d) t wrote.sound)
 
-    read-inside : all_inside (length u) q.description ≡ true
-    read-inside =
-        ap (λ (x : Reading). all_inside (length u) x.description) r.exact ∙ reading-inside u (length (encode (said_by s d))) extent-is-n
+    abbrev reading : Reading
+    reading = read_as u (length (encode (said_by s d)))
+
+    read-is : q ≡ Ok reading
+    read-is = r.exact ∙ reading-is u (length (encode (said_by s d))) extent-is-n
+
+    said_same : said_by u reading.description ≡ said_by s d
+    said_same = ap (λ (a : ReaderAnswer). a.said) (sym (ap (meant u) read-is) ∙ read_same)
+
+    read-inside : all_inside (length u) reading.description ≡ true
+    read-inside = reading-inside u (length (encode (said_by s d))) extent-is-n
+
+    -- it is a reading and no refusal, and `write` of it, over what was read, into an output with room writes the same octets again
+    again_read : (g : Reading) × ((q ≡ Ok g)
+        × ((out₂ now₂ : List ℕ) (r₂ : Written) → Writes u g.description out₂ r₂ now₂ → n ≤ length out₂ → (r₂ ≡ Ok n) × (take n now₂ ≡ take n now)))
+    again_read = (reading, (read-is, again u reading.description read-inside said_same))
 
   -- `read_lldpdu` was called on the whole output
-  module _ (q : Reading) (r : Reads now q) where
+  module _ (q : Result Reading Refusal) (r : Reads now q) where
     pub same-description : meant now q ≡ answered (said_by s d)
     same-description = read_same now (drop n out) now-is r
 
     -- and `write` of what was read, over what was read, into an output with room writes the same octets again
-    pub same-octets : (out₂ now₂ : List ℕ) (r₂ : Written) → Writes now q.description out₂ r₂ now₂ → n ≤ length out₂
-        → (r₂ ≡ Octets n) × (take n now₂ ≡ take n now)
-    same-octets = again now q.description (read-inside now (drop n out) now-is r) (said_same now (drop n out) now-is r)
+    pub same-octets : (g : Reading) × ((q ≡ Ok g)
+        × ((out₂ now₂ : List ℕ) (r₂ : Written) → Writes now g.description out₂ r₂ now₂ → n ≤ length out₂ → (r₂ ≡ Ok n) × (take n now₂ ≡ take n now)))
+    same-octets = again_read now (drop n out) now-is r
 
   -- `read_frame` was called on these octets, behind any header that fits and with any padding
-  module _ (h t : List ℕ) (q : Reading) (l : length h ≡ 14) (o : frame_ok h ≡ true) (m : length (take n now ++ t) ≤ 1500)
+  module _ (h t : List ℕ) (q : Result Reading Refusal) (l : length h ≡ 14) (o : frame_ok h ≡ true) (m : length (take n now ++ t) ≤ 1500)
       (r : ReadsFrame (h ++ (take n now ++ t)) q) where
     abbrev lldpdu : List ℕ
     lldpdu = drop 14 (h ++ (take n now ++ t))
@@ -219,6 +235,6 @@ module _ (s : List ℕ) (d : Description) (out now : List ℕ) (n : ℕ) (w : Wr
     same-frame = read_same lldpdu t behind read_behind
 
     -- and `write` of what was read, over the octets behind the header, from which its parts count, writes the same octets again
-    pub same-octets-frame : (out₂ now₂ : List ℕ) (r₂ : Written) → Writes lldpdu q.description out₂ r₂ now₂ → n ≤ length out₂
-        → (r₂ ≡ Octets n) × (take n now₂ ≡ take n now)
-    same-octets-frame = again lldpdu q.description (read-inside lldpdu t behind read_behind) (said_same lldpdu t behind read_behind)
+    pub same-octets-frame : (g : Reading) × ((q ≡ Ok g)
+        × ((out₂ now₂ : List ℕ) (r₂ : Written) → Writes lldpdu g.description out₂ r₂ now₂ → n ≤ length out₂ → (r₂ ≡ Ok n) × (take n now₂ ≡ take n now)))
+    same-octets-frame = again_read lldpdu t behind read_behind

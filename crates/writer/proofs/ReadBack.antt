@@ -8,11 +8,10 @@ use borrow.Author.Tests.{le-leb}
 use lib.ListN.{length, length-append}
 use lib.Seq.{drop_at, take_at}
 use Rattle.octets.proofs.HeaderLaws.{kind-high, length-join}
-use Rattle.walk.specs.Walk.{Tlv, Placed, head_of, step_of, on_step, walk}
+use Rattle.std.specs.Prelude.{Some, Ok}
+use Rattle.walk.specs.Walk.{Tlv, Placed, header, head_of, step_of, on_step, walk}
 use Rattle.walk.proofs.WalkLaws.{walk_step}
-use Rattle.walk.specs.declared.Head.TheVariants.{Whole}
 use Rattle.walk.specs.declared.Step.TheVariants.{Next}
-use Rattle.walk.specs.declared.Extent.TheVariants.{Octets}
 use Rattle.tlvs.specs.Tlvs.{written, octets_of, end_tlv}
 
 -- One TLV
@@ -22,7 +21,7 @@ pub record Short (t : Tlv) : Type 0 where
   pub body : length t.body < 512
 
 module _ (t : Tlv) (rest : List ℕ) (h : Short t) where
-  pub head-written : head_of (written t ++ rest) ≡ Whole t.kind (length t.body)
+  pub head-written : head_of (written t ++ rest) ≡ Some (header t.kind (length t.body))
   unfolding head_of
   head-written =
       rw (
@@ -33,7 +32,7 @@ module _ (t : Tlv) (rest : List ℕ) (h : Short t) where
 
   walk-written : (at : ℕ)
       → walk (written t ++ rest) 0 at
-      ≡ on_step (step_of (Whole t.kind (length t.body)) at) t.body (walk rest 0 (at + 2 + length t.body))
+      ≡ on_step (step_of (Some (header t.kind (length t.body))) at) t.body (walk rest 0 (at + 2 + length t.body))
   walk-written at =
       walk_step (written t ++ rest) at
       ∙ rw (
@@ -47,7 +46,7 @@ module _ (t : Tlv) (rest : List ℕ) (h : Short t) where
 
 pub record Passed (t : Tlv) : Type 0 where
   pub short : Short t
-  pub passed : (at : ℕ) → step_of (Whole t.kind (length t.body)) at ≡ Next t.kind (at + 2) (length t.body)
+  pub passed : (at : ℕ) → step_of (Some (header t.kind (length t.body))) at ≡ Ok (Next t.kind (at + 2) (length t.body))
 
 pub data AllPassed : List Tlv → Type 0 where
   none_passed : AllPassed []
@@ -70,10 +69,10 @@ end_short : Short end_tlv
 end_short = record { kind = omega arith; body = omega arith }
 
 pub walk-octets : {ts : List Tlv} (at : ℕ) (t : List ℕ) → AllPassed ts
-    → walk (octets_of ts ++ (written end_tlv ++ t)) 0 at ≡ record { extent = Octets (at + length (octets_of ts) + 2); tlvs = laid at ts }
+    → walk (octets_of ts ++ (written end_tlv ++ t)) 0 at ≡ record { extent = Ok (at + length (octets_of ts) + 2); tlvs = laid at ts }
 unfolding octets_of step_of
 walk-octets at t none_passed =
-    walk-written end_tlv t end_short at ∙ ap (λ (n : ℕ). record { extent = Octets n; tlvs = [] }) (omega arith)
+    walk-written end_tlv t end_short at ∙ ap (λ (n : ℕ). record { extent = Ok n; tlvs = [] }) (omega arith)
 walk-octets at t (more-passed {t = x} {ts = ts} f p) =
     let rest = octets_of ts ++ (written end_tlv ++ t) in
     let n = at + 2 + length x.body in

@@ -15,14 +15,13 @@ use Rattle.octets.specs.Numbers.{pair_of}
 use Rattle.strings.specs.Wants.{wanted_of}
 use Rattle.text.specs.Part.{most_parts}
 use Rattle.fields.specs.Field.{port_description, category, manufacturer, model_name, model_number, link, address_list, extension, system_name, system_description, capabilities, management}
-use Rattle.walk.specs.Walk.{head_of, Walked, walk}
+use Rattle.std.specs.Prelude.{Some, Ok}
+use Rattle.walk.specs.Walk.{header, head_of, Walked, walk}
 use Rattle.ids.specs.Id.{Id, chassis_ok, port_ok}
 use Rattle.ids.proofs.IdLaws.{chassis-short, port-short}
 use Rattle.lldpdu.specs.Extent.{length_at, port_place, seconds_place, rest_place, id_in, rest_of}
 use Rattle.lldpdu.specs.Outline.{seconds_in}
 use Rattle.lldpdu.proofs.ExtentLaws.{length-at, Good, reads}
-use Rattle.walk.specs.declared.Head.TheVariants.{Whole}
-use Rattle.walk.specs.declared.Extent.TheVariants.{Octets}
 use Rattle.found.specs.Contents.{contents, well_formed, htip_of, first, tlvs_in}
 use Rattle.found.proofs.ContentsLaws.{contents-append}
 use Rattle.system.specs.System.{up_to255, system_in}
@@ -224,14 +223,14 @@ module _ (s : List ℕ) (at kind : ℕ) (x : Id) (rest : List ℕ) (e : drop at 
   abbrev n : ℕ
   n = length x.octets
 
-  id-head : head_of (drop at s) ≡ Whole kind (suc n)
+  id-head : head_of (drop at s) ≡ Some (header kind (suc n))
   id-head = ap head_of e ∙ head-written (id_tlv kind x) rest (record { kind = small; body = omega arith })
 
   id-length : length_at s at ≡ suc n
   id-length = sym (length-at s at id-head)
 
-  id-whole : head_of (drop at s) ≡ Whole kind (length_at s at)
-  id-whole = id-head ∙ ap (Whole kind) (sym id-length)
+  id-whole : head_of (drop at s) ≡ Some (header kind (length_at s at))
+  id-whole = id-head ∙ ap (λ (l : ℕ). Some (header kind l)) (sym id-length)
 
   id-behind : drop (at + 2 + length_at s at) s ≡ rest
   id-behind =
@@ -300,7 +299,7 @@ module _ (d : Said) (t : List ℕ) where
           id-length s (port_place s) 2 d.port rest₂ from-chassis (omega arith) port-few,
         )
 
-    rest-is : rest_of s ≡ record { extent = Octets (rest_place s + length (octets_of (field_tlvs d)) + 2); tlvs = laid (rest_place s) (field_tlvs d) }
+    rest-is : rest_of s ≡ record { extent = Ok (rest_place s + length (octets_of (field_tlvs d)) + 2); tlvs = laid (rest_place s) (field_tlvs d) }
     rest-is = ap (λ (l : List ℕ). walk l 0 (rest_place s)) from-seconds ∙ walk-octets (rest_place s) t (fields-passed d sound)
 
     whole_length : rest_place s + length (octets_of (field_tlvs d)) + 2 ≡ length (encode d)
@@ -329,7 +328,7 @@ module _ (d : Said) (t : List ℕ) where
           second = id-whole s (port_place s) 2 d.port rest₂ from-chassis (omega arith) port-few;
           port = ap port_ok port-back ∙ (kept d sound).port;
           third = ap head_of from-port ∙ head-written (seconds_tlv d.seconds) rest₃ (record { kind = omega arith; body = omega arith });
-          rest = ap (λ (w : Walked). w.extent) rest-is ∙ ap Octets whole_length;
+          rest = ap (λ (w : Walked). w.extent) rest-is ∙ ap Ok whole_length;
         }
 
     tlvs-back : tlvs_in s ≡ field_tlvs d

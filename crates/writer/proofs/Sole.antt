@@ -4,8 +4,7 @@ use mathlib.Core.Path.{sym, ap, ◌∙◌}
 use Rattle.tally.proofs.Sole.{Sole, SoleAt}
 use Rattle.reading.specs.Meaning.{said_by}
 use Rattle.announcement.specs.Encode.{encode}
-use Rattle.writer.specs.Write.{octets_written, over}
-use Rattle.writer.specs.declared.Written.{Written}
+use Rattle.writer.specs.Write.{Written, octets_written, over}
 use Rattle.writer.proofs.write.Kinds as write-kinds
 use Rattle.writer.proofs.write.Reads as write
 

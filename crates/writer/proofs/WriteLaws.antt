@@ -1,6 +1,6 @@
 -- Laws of the answer: the ways to it, as the code goes them, and when each refusal is given.
 -- 9 is decided first, by the answer for an output of 1,500 octets: what keeps the rules has room there.
-use Prim.Native.Nat.{ℕ, ◌-◌, ◌/◌, ◌<◌, ◌≤◌}
+use Prim.Native.Nat.{ℕ, ◌/◌, ◌<◌, ◌≤◌}
 use mathlib.Core.Path.{◌≡◌, refl, sym, ap, ap₂, ◌∙◌}
 use mathlib.Core.List.{List, [], ◌∷◌, ◌++◌}
 use mathlib.Core.Bool.{Bool, true, false, not}
@@ -17,7 +17,6 @@ use Rattle.tally.proofs.TestsLaws.{both_false}
 use Rattle.output.specs.Output.{Output, output_at, puts}
 use Rattle.output.proofs.OutputLaws.{puts-fits, puts-full}
 use Rattle.text.specs.Part.{optional_text}
-use Rattle.text.specs.declared.Optional.TheVariants.{Absent}
 use Rattle.found.specs.Contents.{LinkInfo}
 use Rattle.system.specs.System.{unsaid, empty_system, system_meant}
 use Rattle.reading.specs.Meaning.{Said, said_by}
@@ -29,23 +28,25 @@ use Rattle.parts.specs.Inside.{system_inside, all_inside}
 use Rattle.parts.proofs.InsideLaws.{inside_before, inside-without-extension, inside-without-both}
 use Rattle.description.specs.Rules.{link_sound, list_sound, sound_of}
 use Rattle.description.proofs.RulesLaws.{kept, table, listed, rules_without, rules-without-extension, rules_before, rules-without-both}
-use Rattle.writer.specs.Write.{refusal_of_written, octets_written, keeps, answer_for, write_of, over, Writes}
-use Rattle.writer.specs.declared.Written.{Written}
-use Rattle.writer.specs.declared.Written.TheVariants.{Octets, Refused}
+use Rattle.writer.specs.Write.{Written, octets_written, keeps, answer_for, write_of, over, Writes}
+use Rattle.refusal.specs.Refusal.{refusal_of}
+use Rattle.refusal.specs.declared.Refusal.{Refusal}
+use Rattle.refusal.specs.declared.Refusal.TheVariants.{BreaksARule, NoRoom}
+use Rattle.std.specs.Prelude.{Ok, Err, None}
 
 -- n octets: the rules are kept, and n is the size
-passed : (a b t : Bool) (l n : ℕ) → pick (both (both a b) t) (pick t (Octets l) (Refused 10)) (Refused 9) ≡ Octets n → (b ≡ true) × (n ≡ l)
+passed : (a b t : Bool) (l n : ℕ) → pick (both (both a b) t) (pick t (Ok l) (Err NoRoom)) (Err BreaksARule) ≡ Ok n → (b ≡ true) × (n ≡ l)
 passed true true true l n e = (refl, sym (ap octets_written e))
-passed true true false l n e = absurd (let z : ◌≡◌ {A = ℕ} 9 0 = ap refusal_of_written e in omega arith)
-passed true false t l n e = absurd (let z : ◌≡◌ {A = ℕ} 9 0 = ap refusal_of_written e in omega arith)
-passed false b t l n e = absurd (let z : ◌≡◌ {A = ℕ} 9 0 = ap refusal_of_written e in omega arith)
+passed true true false l n e = cc
+passed true false t l n e = cc
+passed false b t l n e = cc
 
 -- the test that is left once 9 is decided
 abbrev in_room : ℕ → Written → Written
-in_room room (Octets n) = pick (leb n room) (Octets n) (Refused 10)
-in_room room (Refused n) = Refused n
+in_room room (Ok n) = pick (leb n room) (Ok n) (Err NoRoom)
+in_room room (Err r) = Err r
 
-left : (k t : Bool) (l room : ℕ) → pick (both k t) (pick (leb l room) (Octets l) (Refused 10)) (Refused 9) ≡ in_room room (pick (both k t) (pick t (Octets l) (Refused 10)) (Refused 9))
+left : (k t : Bool) (l room : ℕ) → pick (both k t) (pick (leb l room) (Ok l) (Err NoRoom)) (Err BreaksARule) ≡ in_room room (pick (both k t) (pick t (Ok l) (Err NoRoom)) (Err BreaksARule))
 left true true l room = refl
 left true false l room = refl
 left false t l room = refl
@@ -58,10 +59,9 @@ put-zero out x h e =
     ∙ ap (λ (l : List ℕ). l ++ drop (length x) out) (sym (take-length x))
 
 -- the octets at the front of a room that an LLDPDU was put into are its octets
-front_of : (room x : List ℕ) {now : List ℕ} {n : ℕ} → length x ≤ length room → output_at now n ≡ puts x (output_at room 0) → n ≡ length x → take (n - 0) now ≡ x
+front_of : (room x : List ℕ) {now : List ℕ} {n : ℕ} → length x ≤ length room → output_at now n ≡ puts x (output_at room 0) → n ≡ length x → take n now ≡ x
 front_of room x {now} {n} h e k =
-    let z : n - 0 ≡ length x = omega arith in
-    ap₂ take z (put-zero room x h e ∙ ap (λ (l : List ℕ). l ++ drop (length x) room) (take-length x)) ∙ take-append_seam x (drop (length x) room)
+    ap₂ take k (put-zero room x h e ∙ ap (λ (l : List ℕ). l ++ drop (length x) room) (take-length x)) ∙ take-append_seam x (drop (length x) room)
 
 -- what keeps the rules has no string and no number of addresses that an octet cannot count
 
@@ -110,11 +110,11 @@ module _ (s : List ℕ) (d : Description) where
 
   -- The answer where any LLDPDU has room
 
-  pub outside : all_inside (length s) d ≡ false → Refused 9 ≡ write_of s d 1500
+  pub outside : all_inside (length s) d ≡ false → Err BreaksARule ≡ write_of s d 1500
   unfolding write_of keeps
   outside e = rw e
 
-  pub unsound : sound_of (said_by s d) ≡ false → Refused 9 ≡ write_of s d 1500
+  pub unsound : sound_of (said_by s d) ≡ false → Err BreaksARule ≡ write_of s d 1500
   unfolding write_of keeps
   unsound e = rw (e, both_false (all_inside (length s) d))
 
@@ -129,7 +129,7 @@ module _ (s : List ℕ) (d : Description) where
     ends-whole : size ≤ length room → n ≡ size
     ends-whole h = ends ∙ ap (λ (o : Output). o.end) (puts-fits (encode (said_by s d)) room 0 (omega arith)) ∙ zero-add size
 
-    pub too_long : 1500 < n → Refused 9 ≡ write_of s d 1500
+    pub too_long : 1500 < n → Err BreaksARule ≡ write_of s d 1500
     unfolding write_of
     too_long h = elim (dec_lt 1500 size) [ yes l ↦ rw (lt-leb size 1500 l, both_false (keeps s d)) | no f ↦ absurd (omega (arith, ends-whole (omega arith))) ]
 
@@ -141,13 +141,13 @@ module _ (s : List ℕ) (d : Description) where
           | no g ↦ ends-whole (omega arith)
         ]
 
-    pub wanted : all_inside (length s) d ≡ true → sound_of (said_by s d) ≡ true → n ≤ 1500 → Octets n ≡ write_of s d 1500
+    pub wanted : all_inside (length s) d ≡ true → sound_of (said_by s d) ≡ true → n ≤ 1500 → Ok n ≡ write_of s d 1500
     unfolding write_of keeps
     wanted e f h =
         let q = counted h in
         rw (e, f, q, le-leb size 1500 (omega arith))
 
-    pub drafted : n ≤ 1500 → take (n - 0) now ≡ encode (said_by s d)
+    pub drafted : n ≤ 1500 → take n now ≡ encode (said_by s d)
     drafted h = let k = counted h in front_of room (encode (said_by s d)) (omega arith) q k
 
   -- From it to the answer for an output
@@ -156,19 +156,19 @@ module _ (s : List ℕ) (d : Description) where
   unfolding write_of
   then out e = sym (left (keeps s d) (leb (length (encode (said_by s d))) 1500) (length (encode (said_by s d))) (length out) ∙ ap (in_room (length out)) e)
 
-  pub refuses : (out : List ℕ) {n : ℕ} → write_of s d 1500 ≡ Refused n → Writes s d out (Refused n) out
+  pub refuses : (out : List ℕ) {r : Refusal} → write_of s d 1500 ≡ Err r → Writes s d out (Err r) out
   refuses out e = record { exact = then out e; output = refl }
 
-  module _ {n : ℕ} (e : write_of s d 1500 ≡ Octets n) where
+  module _ {n : ℕ} (e : write_of s d 1500 ≡ Ok n) where
     said : (sound_of (said_by s d) ≡ true) × (n ≡ length (encode (said_by s d)))
     unfolding write_of keeps
     said = passed (all_inside (length s) d) (sound_of (said_by s d)) (leb (length (encode (said_by s d))) 1500) (length (encode (said_by s d))) n e
 
     module _ (out : List ℕ) where
-      pub too_short : length out < n → Writes s d out (Refused 10) out
+      pub too_short : length out < n → Writes s d out (Err NoRoom) out
       too_short k = record { exact = rw (lt-leb n (length out) k) at (then out e); output = refl }
 
-      pub writes : n ≤ length out → {now : List ℕ} {r : ℕ} → output_at now r ≡ puts (encode (said_by s d)) (output_at out 0) → Writes s d out (Octets n) now
+      pub writes : n ≤ length out → {now : List ℕ} {r : ℕ} → output_at now r ≡ puts (encode (said_by s d)) (output_at out 0) → Writes s d out (Ok n) now
       writes k g =
           record {
             exact = rw (le-leb n (length out) k) at (then out e);
@@ -180,27 +180,27 @@ module _ (s : List ℕ) (d : Description) (room : ℕ) where
   abbrev fits : Bool
   fits = both (keeps s d) (leb (length (encode (said_by s d))) 1500)
 
-  pub nine : eqb (refusal_of_written (write_of s d room)) 9 ≡ not fits
+  pub nine : eqb (refusal_of (write_of s d room)) 9 ≡ not fits
   unfolding write_of
   nine = go fits (leb (length (encode (said_by s d))) room)
     where
-      go : (a b : Bool) → eqb (refusal_of_written (pick a (pick b (Octets (length (encode (said_by s d)))) (Refused 10)) (Refused 9))) 9 ≡ not a
+      go : (a b : Bool) → eqb (refusal_of (pick a (pick b (Ok (length (encode (said_by s d)))) (Err NoRoom)) (Err BreaksARule))) 9 ≡ not a
       go true true = refl
       go true false = refl
       go false b = refl
 
-  pub ten : eqb (refusal_of_written (write_of s d room)) 10 ≡ both fits (not (leb (length (encode (said_by s d))) room))
+  pub ten : eqb (refusal_of (write_of s d room)) 10 ≡ both fits (not (leb (length (encode (said_by s d))) room))
   unfolding write_of
   ten = go fits (leb (length (encode (said_by s d))) room)
     where
-      go : (a b : Bool) → eqb (refusal_of_written (pick a (pick b (Octets (length (encode (said_by s d)))) (Refused 10)) (Refused 9))) 10 ≡ both a (not b)
+      go : (a b : Bool) → eqb (refusal_of (pick a (pick b (Ok (length (encode (said_by s d)))) (Err NoRoom)) (Err BreaksARule))) 10 ≡ both a (not b)
       go true true = refl
       go true false = refl
       go false b = refl
 
 -- A description without extension link information gets the answer of before there was any, by the tests, the rules and the octets of then; and these octets
 -- are what is written
-module _ (s : List ℕ) (d : Description) (absent : d.extension ≡ Absent) where
+module _ (s : List ℕ) (d : Description) (absent : d.extension ≡ None) where
   said-absent : optional_text s d.extension ≡ none
   said-absent = ap (optional_text s) absent
 

@@ -1,6 +1,5 @@
 -- `announcement::put_devices` meets its contract: the device information one behind the other.
 -- The law is devices-put of EncodeLaws.
-use borrow.Author.Rules.{rules}
 use Rattle.reading.specs.Meaning.{said_by}
 use Rattle.announcement.specs.Encode.{countable_of}
 use Rattle.announcement.proofs.EncodeLaws.{devices-put}
@@ -9,4 +8,4 @@ use Rattle.announcement.proofs.put_devices.Goals as goal
 pub returns : goal.returns
 returns c =
     let a = c.args in
-    devices-put (countable_of (said_by a.text.now a.d)) _ c.put_device-a.ensures c.put_device-b.ensures c.put_device-c.ensures c.put_device.ensures
+    devices-put (countable_of (said_by a.text.now a.d)) c.put_device.ensures c.put_device-2.ensures c.put_device-3.ensures c.put_device-4.ensures

@@ -1,30 +1,29 @@
--- `announcement::put_management` meets its contract: the first i addresses are put.
+-- `announcement::put_management` meets its contract: as many addresses are put as the loop has met.
 -- One more is management-more, all of them management-all of PutLaws.
-use Prim.Native.Nat.{◌-◌, ◌≤◌}
-use mathlib.Core.Path.{◌≡◌}
-use native.Mathlib.Omega.{arith}
-use borrow.Author.Rules.{rules}
-use lib.ListN.{length}
-use Rattle.output.specs.Output.{output_at, puts}
-use Rattle.output.proofs.OutputLaws.{puts_none, puts_then, puts-same}
-use Rattle.announcement.proofs.PutLaws.{put_up_to, management-none, management-more, management-all}
+use mathlib.Core.List.{List, map}
+use mathlib.Core.Path.{◌≡◌, ap, ◌∙◌}
+use lib.ListN.{take}
+use Rattle.std.proofs.Common.{arith}
+use Rattle.output.proofs.OutputLaws.{put_none, put_then, put_same}
+use Rattle.text.specs.Part.{text_of, parts_in}
+use Rattle.text.specs.declared.Part.{Part}
+use Rattle.system.proofs.ChainLaws.{take-front}
+use Rattle.tlvs.specs.Tlvs.{octets_of, management_tlv}
+use Rattle.announcement.proofs.PutLaws.{management-none, management-more, management-all}
 use Rattle.announcement.proofs.put_management.Goals as goal
 
-pub loop-i-init : goal.loop-i-init
-loop-i-init c =
-    let a = c.args in
-    (search rules, search rules, puts-same _ (puts_none _) (management-none a.text.now a.l))
+pub loop-p-init : goal.loop-p-init
+loop-p-init c = put_same (put_none c.args.out.now) (management-none c.args.text.now (take c.part_count.result c.args.l.parts))
 
-pub loop-i-preserved : goal.loop-i-preserved
-loop-i-preserved c =
-    let a = c.args in (
-      search rules,
-      search rules,
-      puts-same _ (puts_then _ _ _ c.loop-i.invariant.2 c.put_tlv-end.ensures)
-          (management-more a.text.now a.l c.loop-i.i (omega (arith, c.part_count-i-end.ensures)) c.nth_part.ensures c.text_of.ensures),
-    )
+pub loop-p-preserved : goal.loop-p-preserved
+loop-p-preserved c =
+    let a = c.args in
+    put_same (put_then _ _ c.loop-p.invariant c.put_tlv.ensures)
+    (management-more a.text.now (take c.part_count.result a.l.parts) c.loop-p.p-index (omega arith) c.text_of.ensures)
 
 pub returns : goal.returns
 returns c =
     let a = c.args in
-    puts-same _ c.loop-i.invariant.2 (management-all a.text.now a.l c.loop-i.i (omega (arith, c.part_count-i-end.ensures)))
+    let ps : take c.part_count.result a.l.parts ≡ parts_in a.l = ap (λ n. take n a.l.parts) c.part_count.ensures ∙ take-front a.l.count a.l.parts in
+    put_same c.loop-p.invariant
+    (management-all a.text.now (take c.part_count.result a.l.parts) c.loop-p.p-index (omega arith) ∙ ap (λ (l : List Part). octets_of (map management_tlv (map (text_of a.text.now) l))) ps)

@@ -5,27 +5,29 @@ use native.Mathlib.Omega.{arith}
 use Rattle.place.specs.State.{state}
 use Rattle.compare.proofs.CompareLaws.{compares-first-unfit, compares-second-unfit, compares-short, compares-listed}
 use Rattle.compare.proofs.compare.Goals as goal
+use Rattle.compare.proofs.compare.Goals.{then-not-is_fit-via-then-not-is_fit, then-not-is_fit-via-else-not-is_fit+then-not-is_fit-2}
 
 pub returns-then-not-is_fit : goal.returns-then-not-is_fit
 returns-then-not-is_fit c =
     let a = c.args in
-    compares-first-unfit (state a.first a.buffer.now) (state a.second a.buffer2.now) a.list.now (sym c.is_fit.ensures ∙ c.if-not-is_fit.true)
+    let s = state a.first a.buffer.now in
+    let u = state a.second a.buffer2.now in
+    elim c.then-not-is_fit.branch [
+      | then-not-is_fit-via-then-not-is_fit w ↦ compares-first-unfit s u a.list.now (sym c.is_fit.ensures ∙ w.if-not-is_fit.true)
+      | then-not-is_fit-via-else-not-is_fit+then-not-is_fit-2 w ↦
+          compares-second-unfit s u a.list.now (sym w.is_fit-else-not-is_fit.ensures ∙ w.if-not-is_fit-2.true)
+    ]
 
-pub returns-then-not-is_fit-2 : goal.returns-then-not-is_fit-2
-returns-then-not-is_fit-2 c =
-    let a = c.args in
-    compares-second-unfit (state a.first a.buffer.now) (state a.second a.buffer2.now) a.list.now (sym c.is_fit-2.ensures ∙ c.if-not-is_fit-2.true)
-
-pub returns-then-len-n : goal.returns-then-len-n
-returns-then-len-n c =
+pub returns-then-list-n : goal.returns-then-list-n
+returns-then-list-n c =
     let a = c.args in
     compares-short (state a.first a.buffer.now) (state a.second a.buffer2.now) a.list.now
-    (sym c.is_fit.ensures ∙ c.if-not-is_fit.false) (sym c.is_fit-2.ensures ∙ c.if-not-is_fit-2.false)
-    _ (omega arith) c.put_entries-n.ensures c.all_or_none-len.ensures c.text_of.ensures c.put_all.ensures c.if-len-n.true
+    (sym c.is_fit.ensures ∙ c.if-not-is_fit.false) (sym c.is_fit-else-not-is_fit.ensures ∙ c.if-not-is_fit-2.false)
+    _ (omega arith) c.entries_in-n.ensures c.if-list-n.true
 
 pub returns : goal.returns
 returns c =
     let a = c.args in
     compares-listed (state a.first a.buffer.now) (state a.second a.buffer2.now) a.list.now
-    (sym c.is_fit.ensures ∙ c.if-not-is_fit.false) (sym c.is_fit-2.ensures ∙ c.if-not-is_fit-2.false)
-    _ (omega arith) c.put_entries-n.ensures c.all_or_none-len.ensures c.text_of.ensures c.put_all.ensures c.if-len-n.false
+    (sym c.is_fit.ensures ∙ c.if-not-is_fit.false) (sym c.is_fit-else-not-is_fit.ensures ∙ c.if-not-is_fit-2.false)
+    _ (omega arith) c.entries_in-n.ensures c.if-list-n.false c.text_of.ensures c.put_all.ensures

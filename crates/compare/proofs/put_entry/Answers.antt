@@ -1,12 +1,9 @@
 -- `compare::put_entry` meets its contract: its two octets, one behind the other.
--- Each call of `put_octet` puts one (puts_one), and both together are the entry (puts_then).
-use mathlib.Core.List.{[], ◌∷◌}
-use Rattle.output.specs.Output.{output_at}
-use Rattle.output.proofs.OutputLaws.{puts_then, puts_one}
+-- Each call of `put_octet` puts one, and both together are the entry (put_then).
+use Rattle.std.proofs.Common.{ℕ, ap, [], ◌∷◌}
+use Rattle.output.proofs.OutputLaws.{put_then, put_same}
 use Rattle.compare.proofs.put_entry.Goals as goal
 
 pub returns : goal.returns
 returns c =
-    let a = c.args in
-    let o = output_at a.out.now a.at in
-    puts_then (a.kind ∷ []) (a.place ∷ []) o (puts_one a.kind o c.put_octet-a.ensures) (puts_one a.place _ c.put_octet.ensures)
+    put_same (put_then (_ ∷ []) (c.args.place ∷ []) c.put_octet.ensures c.put_octet-2.ensures) (ap (λ (n : ℕ). n ∷ c.args.place ∷ []) c.from.ensures)

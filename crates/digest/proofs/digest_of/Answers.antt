@@ -1,6 +1,5 @@
 -- `digest::digest_of` meets its contract: ports, seconds, lengths, senders and buffer are mixed one behind the other.
 -- The law is digest-is of FoldLaws.
-use borrow.Author.Rules.{rules}
 use Rattle.digest.proofs.FoldLaws.{digest-is}
 use Rattle.digest.proofs.digest_of.Goals as goal
 

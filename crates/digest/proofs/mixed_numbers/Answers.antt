@@ -1,24 +1,14 @@
--- `digest::mixed_numbers` meets its contract: what is still to come, mixed into what was, is the whole mixed.
--- One number more is folded-step, the end is folded-end of FoldLaws.
-use Prim.Native.Nat.{ℕ, ◌+◌, ◌≤◌, ◌-◌}
-use mathlib.Core.Path.{◌≡◌, refl, ap, ◌∙◌}
-use native.Mathlib.Omega.{arith}
-use lib.ListN.{length, drop}
-use borrow.Author.Rules.{rules}
-use Rattle.digest.specs.Digest.{mixed, mixed_all}
-use Rattle.digest.proofs.FoldLaws.{folded-step, folded-end}
+-- `digest::mixed_numbers` meets its contract: the fold over the numbers is the definition's.
+-- The law is fold-folded of FoldLaws.
+use mathlib.Core.Path.{◌∙◌}
+use Rattle.std.proofs.Common.{rules}
+use Rattle.std.proofs.lemmas.Iterator.{YieldsList-from_slice}
+use Rattle.std.proofs.lemmas.Iterator.Consumers.{fold_from_yields_List}
+use Rattle.digest.specs.Digest.{mixed}
+use Rattle.digest.proofs.FoldLaws.{fold-folded}
 use Rattle.digest.proofs.mixed_numbers.Goals as goal
-
-pub loop-i-init : goal.loop-i-init
-loop-i-init c = (omega arith, refl)
-
-pub loop-i-preserved : goal.loop-i-preserved
-loop-i-preserved c =
-    let turn = c.loop-i in
-    let s = c.args.s.now in
-    (omega arith, ap (λ (x : ℕ). mixed_all x (drop (turn.i + 1) s)) c.mixed-mix.ensures ∙ folded-step mixed turn.mix s turn.i 0 (omega arith) ∙ turn.invariant.1)
 
 pub returns : goal.returns
 returns c =
-    let turn = c.loop-i in
-    folded-end mixed turn.mix c.args.s.now turn.i (omega arith) ∙ turn.invariant.1
+    let s = c.args.s.now in
+    fold_from_yields_List _ mixed _ _ c.fold.ensures.ran (YieldsList-from_slice s c.iter.ensures.rest) (λ a x b q k. search rules) ∙ fold-folded mixed c.args.h s

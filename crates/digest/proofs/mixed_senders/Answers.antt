@@ -1,32 +1,14 @@
--- `digest::mixed_senders` meets its contract: what is still to come, mixed into what was, is the whole mixed.
--- One sender more is folded-step, the end is folded-end of FoldLaws.
-use Prim.Native.Nat.{ℕ, ◌+◌, ◌≤◌, ◌-◌}
-use mathlib.Core.Path.{◌≡◌, refl, ap, ◌∙◌}
-use native.Mathlib.Omega.{arith}
-use lib.ListN.{length, drop}
-use borrow.Author.Rules.{rules}
-use Rattle.numbers.specs.Sizes.{places}
-use Rattle.numbers.specs.declared.Sender.{Sender}
-use Rattle.digest.specs.Digest.{mixed_all, mixed_senders}
-use Rattle.digest.proofs.FoldLaws.{folded-step, folded-end}
+-- `digest::mixed_senders` meets its contract: the fold over the senders is the definition's.
+-- The law is fold-folded of FoldLaws.
+use mathlib.Core.Path.{◌∙◌}
+use Rattle.std.proofs.Common.{rules}
+use Rattle.std.proofs.lemmas.Iterator.{YieldsList-from_slice}
+use Rattle.std.proofs.lemmas.Iterator.Consumers.{fold_from_yields_List}
+use Rattle.digest.specs.Digest.{mixed_all}
+use Rattle.digest.proofs.FoldLaws.{fold-folded}
 use Rattle.digest.proofs.mixed_senders.Goals as goal
-
-abbrev one_more : ℕ → Sender → ℕ
-one_more h s = mixed_all h s.octets
-
-pub loop-i-init : goal.loop-i-init
-loop-i-init c = (omega arith, refl)
-
-pub loop-i-preserved : goal.loop-i-preserved
-loop-i-preserved c =
-    let turn = c.loop-i in
-    let s = c.args.s in
-    let many : length s ≡ places = search rules in
-    (omega arith, ap (λ (x : ℕ). mixed_senders x (drop (turn.i + 1) s)) c.mixed_sender-mix.ensures ∙ folded-step one_more turn.mix s turn.i _ (omega arith) ∙ turn.invariant.1)
 
 pub returns : goal.returns
 returns c =
-    let turn = c.loop-i in
-    let s = c.args.s in
-    let many : length s ≡ places = search rules in
-    folded-end one_more turn.mix s turn.i (omega arith) ∙ turn.invariant.1
+    let s = c.args.s.now in
+    fold_from_yields_List _ (λ k s. mixed_all k s.octets) _ _ c.fold.ensures.ran (YieldsList-from_slice s c.iter.ensures.rest) (λ a x b q k. search rules) ∙ fold-folded (λ k s. mixed_all k s.octets) c.args.h s

@@ -13,12 +13,12 @@ returns-then-not-one_to_four-2 c =
     sym (fits_read c.args.t.now c.octet-n.ensures c.octet.ensures refl refl
     ∙ rw (sym c.one_to_four.ensures ∙ c.if-not-one_to_four.false, sym c.one_to_four-2.ensures ∙ c.if-not-one_to_four-2.true))
 
-pub returns-then-not-width_fits : goal.returns-then-not-width_fits
-returns-then-not-width_fits c =
+pub returns-else-width_fits : goal.returns-else-width_fits
+returns-else-width_fits c =
     sym (fits_read c.args.t.now c.octet-n.ensures c.octet.ensures c.opening_of-h.ensures.0 c.closing_of-e.ensures.0
-    ∙ rw (sym c.one_to_four.ensures ∙ c.if-not-one_to_four.false, sym c.one_to_four-2.ensures ∙ c.if-not-one_to_four-2.false, sym c.width_fits.ensures ∙ c.if-not-width_fits.true))
+    ∙ rw (sym c.one_to_four.ensures ∙ c.if-not-one_to_four.false, sym c.one_to_four-2.ensures ∙ c.if-not-one_to_four-2.false, sym c.width_fits.ensures ∙ c.if-width_fits.false) (sym c.if-width_fits.false))
 
-pub returns : goal.returns
-returns c =
+pub returns-then-width_fits : goal.returns-then-width_fits
+returns-then-width_fits c =
     sym (fits_read c.args.t.now c.octet-n.ensures c.octet.ensures c.opening_of-h.ensures.0 c.closing_of-e.ensures.0
-    ∙ rw (sym c.one_to_four.ensures ∙ c.if-not-one_to_four.false, sym c.one_to_four-2.ensures ∙ c.if-not-one_to_four-2.false, sym c.width_fits.ensures ∙ c.if-not-width_fits.false, ← c.ends_there.ensures) (both_end _))
+    ∙ rw (sym c.one_to_four.ensures ∙ c.if-not-one_to_four.false, sym c.one_to_four-2.ensures ∙ c.if-not-one_to_four-2.false, sym c.width_fits.ensures ∙ c.if-width_fits.true, ← c.ends_there.ensures) (both_end _))

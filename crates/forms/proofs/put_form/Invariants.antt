@@ -1,10 +1,11 @@
 -- `forms::put_form` meets its contract: the rest of the forms, put behind what was put, gives the line of the whole.
 -- One octet is form-next, the end is form-done of FormLaws.
-use mathlib.Core.Path.{◌≡◌}
-use lib.ListN.{length, drop}
-use Rattle.output.specs.Output.{output_at, puts}
+use Rattle.std.specs.Prelude.{◌≡◌, drop}
+use Rattle.output.specs.Output.{puts, seen}
 use Rattle.forms.specs.Form.{formed}
 use Rattle.forms.proofs.put_form.Given as goal
 
-abbrev pub invariant-loop-i : goal.invariant-loop-i
-invariant-loop-i l = (l.i-end ≡ length l.forms) × (length l.line ≡ length l.initial.line) × (puts (formed (drop l.i l.forms) l.left l.rest l.text) (output_at l.line l.end) ≡ puts (formed l.forms l.which l.values l.text) (output_at l.initial.line l.at))
+abbrev pub invariant-loop-mark : goal.invariant-loop-mark
+invariant-loop-mark l =
+    (l.line.octets.ghost_name ≡ l.initial.line.octets.ghost_name)
+    × (puts (formed (drop l.mark-index l.forms) l.left l.rest l.text) (seen l.line) ≡ puts (formed l.forms l.which l.values l.text) (seen l.initial.line))

@@ -7,8 +7,8 @@ use Rattle.found.specs.Found.{nothing, survey_by}
 use Rattle.walk.specs.Walk.{walk}
 use Rattle.found.proofs.gathered.Given as goal
 
-abbrev pub invariant-loop-n : goal.invariant-loop-n
-invariant-loop-n l = survey_by l.found (walk (drop l.at l.s) 0 l.at) ≡ survey_by nothing (walk (drop l.from l.s) 0 l.from)
+abbrev pub invariant-loop-r : goal.invariant-loop-r
+invariant-loop-r l = survey_by l.found (walk (drop l.at l.s) 0 l.at) ≡ survey_by nothing (walk (drop l.from l.s) 0 l.from)
 
-abbrev pub decreases-loop-n : goal.decreases-loop-n
-decreases-loop-n l = length l.s - l.at
+abbrev pub decreases-loop-r : goal.decreases-loop-r
+decreases-loop-r l = length l.s - l.at

@@ -7,6 +7,3 @@ use Rattle.found.proofs.said.Goals as goal
 pub returns-then-is_unread : goal.returns-then-is_unread
 returns-then-is_unread c =
     sym (unread-skipped c.args.kind c.args.part.now (sym c.is_unread.ensures ∙ c.if-is_unread.true))
-
-pub returns : goal.returns
-returns c = c.field_of.ensures

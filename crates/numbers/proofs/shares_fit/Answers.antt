@@ -1,8 +1,8 @@
 -- `numbers::shares_fit` meets its contract: every port below p holds no more than it may, and the sum is what they hold beyond two.
 -- A port that holds more decides (all-stop); at the end the sum decides.
-use mathlib.Core.Path.{◌≡◌, refl, sym, ◌∙◌}
+use Prim.Native.Nat.{ℕ, ◌+◌}
+use mathlib.Core.Path.{◌≡◌, refl, sym, ap, ◌∙◌}
 use native.Mathlib.Omega.{arith}
-use borrow.Author.Rules.{rules}
 use borrow.Author.Tests.{le-leb, lt-leb}
 use lib.Dec.{leb}
 use Rattle.tally.proofs.CountsLaws.{sum-none}
@@ -12,26 +12,25 @@ use Rattle.numbers.specs.Sizes.{ports}
 use Rattle.numbers.specs.Numbers.{holds, shares_ok}
 use Rattle.numbers.proofs.NumbersLaws.{beyond-more, beyond-sum}
 use Rattle.numbers.proofs.shares_fit.Goals as goal
-use Rattle.numbers.proofs.shares_fit.Goals.{then-count-gt-SURE, else-count-gt-SURE}
 
 pub loop-p-init : goal.loop-p-init
-loop-p-init c = (search rules, search rules, sym (sum-none _), all_none _)
+loop-p-init c = (omega arith, omega arith, sym (sum-none _), all_none _)
 
 pub returns-then-count-gt-MOST : goal.returns-then-count-gt-MOST
 unfolding shares_ok
 returns-then-count-gt-MOST c =
     let h = holds c.args.t in
     let n : c.held-count.result ≡ h c.loop-p.p = c.held-count.ensures in
-    sym (rw (all-stop (λ k. leb (h k) most) c.loop-p.p ports (search rules) (lt-leb (h c.loop-p.p) most (omega arith))))
+    sym (rw (all-stop (λ k. leb (h k) most) c.loop-p.p ports (omega arith) (lt-leb (h c.loop-p.p) most (omega arith))))
 
 pub loop-p-preserved : goal.loop-p-preserved
 loop-p-preserved c =
     let h = holds c.args.t in
     let n : c.held-count.result ≡ h c.loop-p.p = c.held-count.ensures in
     let more = beyond-more h c.loop-p.p n c.loop-p.invariant.2 in (
-      search rules,
-      elim c.if-count-gt-SURE.branch [ then-count-gt-SURE w ↦ omega (arith, w.sum-is) | else-count-gt-SURE w ↦ omega (arith, w.sum-is) ],
-      elim c.if-count-gt-SURE.branch [ then-count-gt-SURE w ↦ w.sum-is ∙ more | else-count-gt-SURE w ↦ omega (arith, w.sum-is, more) ],
+      omega arith,
+      omega arith,
+      ap (λ (x : ℕ). c.loop-p.sum + x) (c.from-sum.ensures ∙ c.saturating_sub.ensures) ∙ more,
       all_more _ _ c.loop-p.invariant.3 (le-leb (h c.loop-p.p) most (omega arith)),
     )
 

@@ -1,8 +1,7 @@
--- `output::put_all` meets its contract: as many octets as have room, put as a whole.
--- Those left out change nothing (puts-past and puts-fitting of OutputLaws).
-use mathlib.Core.Path.{◌∙◌}
+-- `output::put_all` meets its contract: as many octets as have room, copied as a whole.
+-- Those left out change nothing (puts-past and puts-copied of OutputLaws).
 use native.Mathlib.Omega.{arith}
-use Rattle.output.proofs.OutputLaws.{puts-past, puts-fitting, fitting-inside}
+use Rattle.output.proofs.OutputLaws.{puts-past, puts-copied}
 use Rattle.output.proofs.put_all.Goals as goal
 
 pub returns-then-out-at : goal.returns-then-out-at
@@ -10,12 +9,7 @@ returns-then-out-at c =
     let a = c.args in
     puts-past a.octets.now a.out.now a.at (omega arith)
 
-pub put_whole-requires : goal.put_whole-requires
-put_whole-requires c =
-    let a = c.args in
-    fitting-inside a.octets.now a.out.now a.at (omega arith) c.fitting-n.ensures
-
 pub returns : goal.returns
 returns c =
     let a = c.args in
-    c.put_whole.ensures ∙ puts-fitting a.octets.now a.out.now a.at (omega arith) c.fitting-n.ensures
+    puts-copied a.octets.now a.out.now a.at c.min-n.result (omega arith) c.min-n.ensures c.copy_from_slice.new.self c.copy_from_slice.ensures.after

@@ -10,10 +10,10 @@ use Rattle.place.proofs.lldpdu_at.Goals as goal
 pub returns-then-i-ge-PLACES : goal.returns-then-i-ge-PLACES
 returns-then-i-ge-PLACES c =
     let a = c.args in
-    c.text_of.ensures ∙ past-empty a.buffer.now a.i a.length c.if-i-ge-PLACES.true
+    past-empty a.buffer.now a.i a.length c.if-i-ge-PLACES.true
 
 pub returns : goal.returns
 returns c =
     let a = c.args in
-    let place : c.text_of-2.result.now ≡ take size (drop (a.i * size) a.buffer.now) = c.text_of-2.ensures in
-    c.text_of-3.ensures ∙ ap (take a.length) place ∙ there-octets a.buffer.now a.i a.length c.if-i-ge-PLACES.false
+    let place : c.text_of.result.now ≡ take size (drop (a.i * size) a.buffer.now) = c.text_of.ensures in
+    c.text_of-2.ensures ∙ ap (take a.length) place ∙ there-octets a.buffer.now a.i a.length c.if-i-ge-PLACES.false

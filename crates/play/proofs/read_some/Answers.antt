@@ -12,4 +12,4 @@ returns-then-n-eq0 o c = reads_none _ _
 
 pub returns : goal.returns
 returns o c =
-    (_, (c.go_on-one.ensures, c.go_on-other.ensures))
+    (_, (c.go_on-first.ensures, c.go_on-second.ensures))

@@ -1,11 +1,5 @@
 -- `questions::naming_in_place` meets its contract: a free place names nobody, a used one is what the reader says of its LLDPDU.
--- Each return is one law (naming-free, naming-used); the LLDPDU is valid (valid-naming).
-use Prim.Native.Nat.{ℕ}
-use mathlib.Core.Path.{refl, ap, ◌∙◌}
-use mathlib.Core.List.{List}
-use Rattle.lldpdu.specs.Extent.{rest_of}
-use Rattle.naming.specs.Naming.{first_naming}
-use Rattle.naming.proofs.NamingLaws.{valid-naming}
+-- Each return is one law (naming-free, naming-used).
 use Rattle.place.specs.State.{lldpdu_in}
 use Rattle.questions.proofs.QuestionLaws.{naming-free, naming-used}
 use Rattle.questions.proofs.naming_in_place.Goals as goal
@@ -18,8 +12,5 @@ returns-then-kept-eq0 c =
 pub returns : goal.returns
 returns c =
     let a = c.args in
-    let l = lldpdu_in a.buffer.now a.i a.kept in
     let used = c.if-kept-eq0.false in
-    naming-used a.address a.kept l used
-    (c.rest_naming.ensures ∙ ap (λ (k : List ℕ). first_naming a.address (rest_of k).tlvs) c.lldpdu_at.ensures ∙ valid-naming l a.address (c.requires used))
-    refl
+    naming-used a.address a.kept (lldpdu_in a.buffer.now a.i a.kept) used c.rest_naming.ensures c.lldpdu_at.ensures (c.requires used)

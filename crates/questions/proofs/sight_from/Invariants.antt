@@ -9,6 +9,3 @@ use Rattle.questions.proofs.sight_from.Given as goal
 
 abbrev pub invariant-loop-i : goal.invariant-loop-i
 invariant-loop-i l = sight_from (state l.t l.buffer) l.address l.from (places - l.from) ≡ sight_from (state l.t l.buffer) l.address l.i (places - l.i)
-
-abbrev pub decreases-loop-i : goal.decreases-loop-i
-decreases-loop-i l = places - l.i

@@ -18,17 +18,17 @@ returns-then-due-eq0 c =
 
 pub loop-at-smaller : goal.loop-at-smaller
 loop-at-smaller c =
-    let p : 0 < c.least.result = c.least.ensures.1.1 (positive c.loop-at.q.replay.want c.if-due-eq0.false) (search rules) in
+    let p : 0 < c.min.result = omega (arith, c.min.ensures, positive c.loop-at.q.replay.want c.if-due-eq0.false) in
     omega (arith, p, c.loop-at.invariant.0)
 
 pub loop-at-preserved : goal.loop-at-preserved
 loop-at-preserved c =
     let l = c.loop-at in
     let s = state l.q.table l.buffer in
-    let n : c.least.result ≤ l.q.replay.want = c.least.ensures.0 in
-    let d : l.at + c.least.result - l.at ≤ l.q.replay.want = omega arith in (
+    let n : c.min.result ≤ l.q.replay.want = omega (arith, c.min.ensures) in
+    let d : l.at + c.min.result - l.at ≤ l.q.replay.want = omega arith in (
       search rules,
-      turn_more c.args.piece.now _ l.at (l.at + c.least.result) (moment l.q.replay l.room s) (positive l.q.replay.want c.if-due-eq0.false)
+      turn_more c.args.piece.now _ l.at (l.at + c.min.result) (moment l.q.replay l.room s) (positive l.q.replay.want c.if-due-eq0.false)
           (search rules) (search rules) d (c.take_in-held.ensures s)
           (settled-in c.take_in-held.result c.take_in-held.new.room s c.settle-q.ensures)
           l.invariant.1,

@@ -4,10 +4,10 @@ use mathlib.Core.Path.{refl, sym, ◌∙◌}
 use Rattle.replay.proofs.EndLaws.{ends-sound, ends-unsound}
 use Rattle.replay.proofs.finish.Goals as goal
 
-pub returns-then-is_sound : goal.returns-then-is_sound
-returns-then-is_sound c =
-    ends-sound c.args.r (sym c.is_sound.ensures ∙ c.if-is_sound.true) c.end_at.ensures
+pub returns-then-not-is_sound : goal.returns-then-not-is_sound
+returns-then-not-is_sound c =
+    ends-unsound c.args.r (sym c.is_sound.ensures ∙ c.if-not-is_sound.true) refl
 
 pub returns : goal.returns
 returns c =
-    ends-unsound c.args.r (sym c.is_sound.ensures ∙ c.if-is_sound.false) refl
+    ends-sound c.args.r (sym c.is_sound.ensures ∙ c.if-not-is_sound.false) c.end_at.ensures

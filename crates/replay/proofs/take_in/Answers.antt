@@ -9,7 +9,7 @@ returns-then-is_kept c =
     let a = c.args in
     λ s. took-kept a.r a.room.now s a.part.now (sym c.is_kept.ensures ∙ c.if-is_kept.true) c.put_all.ensures
 
-pub returns : goal.returns
-returns c =
+pub returns-else-is_kept : goal.returns-else-is_kept
+returns-else-is_kept c =
     let a = c.args in
     λ s. took-passed a.r a.room.now s a.part.now (sym c.is_kept.ensures ∙ c.if-is_kept.false)

@@ -1,14 +1,15 @@
 -- `tlvs::put_string` meets its contract: nothing, or header and string.
 -- One test decides.
-use borrow.Author.Rules.{rules}
-use Rattle.output.proofs.OutputLaws.{puts_none, puts-same}
+use mathlib.Core.Path.{sym, ◌∙◌}
+use borrow.Author.Tests.{eqb-true, eqb-false}
+use Rattle.output.proofs.OutputLaws.{put_none, put_same}
 use Rattle.tlvs.specs.Tlvs.{tlv}
 use Rattle.tlvs.proofs.TlvLaws.{none-octets, some-octets}
 use Rattle.tlvs.proofs.put_string.Goals as goal
 
-pub returns-then-string-eq0 : goal.returns-then-string-eq0
-returns-then-string-eq0 c = puts-same _ (puts_none _) (none-octets (tlv _) c.text_of-string.ensures c.if-string-eq0.true)
+pub returns-then-is_empty : goal.returns-then-is_empty
+returns-then-is_empty c = put_same (put_none c.args.out.now) (none-octets (tlv _) c.text_of-string.ensures (eqb-true _ 0 (sym c.is_empty.ensures ∙ c.if-is_empty.true)))
 
 pub returns : goal.returns
 returns c =
-    puts-same _ c.put_tlv.ensures (some-octets (tlv _) c.text_of-string.ensures c.if-string-eq0.false)
+    put_same c.put_tlv.ensures (some-octets (tlv _) c.text_of-string.ensures (eqb-false _ 0 (sym c.is_empty.ensures ∙ c.if-is_empty.false)))

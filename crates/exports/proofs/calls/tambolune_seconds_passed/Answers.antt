@@ -16,10 +16,10 @@ use Rattle.exports.proofs.CappedLaws.{capped-passed, seconds-small}
 use Rattle.exports.proofs.GivesLaws.{wrong-changes, after-changes}
 use Rattle.exports.proofs.calls.tambolune_seconds_passed.Goals as goal
 
-pub returns-else-lengths_fit : goal.returns-else-lengths_fit
-returns-else-lengths_fit c =
+pub returns-then-not-lengths_fit : goal.returns-then-not-lengths_fit
+returns-then-not-lengths_fit c =
     let a = c.args in
-    wrong-changes _ (on_after (passed a.gone (state_in (lent a.ports.now a.seconds.now a.lengths.now a.senders.now) a.buffer.now))) _ (sym c.lengths_fit.ensures ∙ c.if-lengths_fit.false) _ _
+    wrong-changes _ (on_after (passed a.gone (state_in (lent a.ports.now a.seconds.now a.lengths.now a.senders.now) a.buffer.now))) _ (sym c.lengths_fit.ensures ∙ c.if-not-lengths_fit.true) _ _
 
 pub returns : goal.returns
 returns c =
@@ -28,7 +28,7 @@ returns c =
     let b = a.buffer.now in
     let f : (i : ℕ) → Fits w8 (get_or a.seconds.now i 0) = λ i. search rules in
     let g : (i : ℕ) → Fits w8 (get_or a.lengths.now i 0) = λ i. search rules in
-    after-changes x _ b _ _ (sym c.lengths_fit.ensures ∙ c.if-lengths_fit.true) f g c.put_table.ensures (passed a.gone) (passed-unchanged (state_in x b) a.gone) _ c.seconds_passed-r.result refl
+    after-changes x _ b _ _ (sym c.lengths_fit.ensures ∙ c.if-not-lengths_fit.false) f g c.put_table.ensures (passed a.gone) (passed-unchanged (state_in x b) a.gone) _ c.seconds_passed-r.result refl
     (c.seconds_passed-r.ensures.exact
     ∙ ap₂ (λ n y. passed n (state y b)) c.capped.ensures c.table_in.ensures
     ∙ capped-passed a.gone (state_in x b) (seconds-small x f))

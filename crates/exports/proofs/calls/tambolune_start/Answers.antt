@@ -14,10 +14,10 @@ use Rattle.exports.specs.Calls.{state_in, on_after}
 use Rattle.exports.proofs.GivesLaws.{wrong-changes, after-changes}
 use Rattle.exports.proofs.calls.tambolune_start.Goals as goal
 
-pub returns-else-lengths_fit : goal.returns-else-lengths_fit
-returns-else-lengths_fit c =
+pub returns-then-not-lengths_fit : goal.returns-then-not-lengths_fit
+returns-then-not-lengths_fit c =
     let a = c.args in
-    wrong-changes _ (on_after (started (state_in (lent a.ports.now a.seconds.now a.lengths.now a.senders.now) a.buffer.now))) _ (sym c.lengths_fit.ensures ∙ c.if-lengths_fit.false) _ _
+    wrong-changes _ (on_after (started (state_in (lent a.ports.now a.seconds.now a.lengths.now a.senders.now) a.buffer.now))) _ (sym c.lengths_fit.ensures ∙ c.if-not-lengths_fit.true) _ _
 
 pub returns : goal.returns
 returns c =
@@ -26,7 +26,7 @@ returns c =
     let b = a.buffer.now in
     let f : (i : ℕ) → Fits w8 (get_or a.seconds.now i 0) = λ i. search rules in
     let g : (i : ℕ) → Fits w8 (get_or a.lengths.now i 0) = λ i. search rules in
-    after-changes x _ b _ _ (sym c.lengths_fit.ensures ∙ c.if-lengths_fit.true) f g c.put_table.ensures (started) (start-unchanged (state_in x b)) _ c.start-r.result refl
+    after-changes x _ b _ _ (sym c.lengths_fit.ensures ∙ c.if-not-lengths_fit.false) f g c.put_table.ensures (started) (start-unchanged (state_in x b)) _ c.start-r.result refl
     (c.start-r.ensures.exact ∙ ap (λ y. started (state y b)) c.table_in.ensures)
     (c.start-r.ensures.refusal ∙ ap (λ y. refusal_at_start (state y b)) c.table_in.ensures)
     c.refusal_of.ensures

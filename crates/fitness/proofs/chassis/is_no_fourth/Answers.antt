@@ -15,9 +15,9 @@ use Rattle.ids.specs.declared.IdPart.{IdPart}
 use Rattle.rules.specs.Shares.{per_chassis, chassis_is}
 use Rattle.lldpdu.specs.Extent.{id_at}
 use Rattle.numbers.specs.Sizes.{places}
-use Rattle.place.specs.State.{State, at, used, lldpdu_in, chassis_in, record_passes, passes}
+use Rattle.place.specs.State.{State, state, at, used, lldpdu_in, chassis_in, record_passes, passes}
 use Rattle.place.proofs.ThereLaws.{there-lldpdu, there-passes}
-use Rattle.fitness.specs.Beside.{by_numbers, no_fourth}
+use Rattle.fitness.specs.Beside.{no_fourth}
 use Rattle.fitness.proofs.ChassisLaws.{few-below}
 use Rattle.fitness.proofs.chassis.is_no_fourth.Invariants.{own}
 use Rattle.fitness.proofs.chassis.is_no_fourth.Goals as goal
@@ -47,34 +47,22 @@ is_few_below-requires c = (c.requires.below, c.requires.marked.long)
 
 pub returns-then-is_few_below : goal.returns-then-is_few_below
 returns-then-is_few_below c =
-    let s = by_numbers c.args.ports.now c.args.lengths.now c.args.buffer.now in
+    let s = state c.args.t.now c.args.buffer.now in
     let u : used (at s c.args.i) ≡ true = rw (ne_eqb (at s c.args.i).len 0 c.requires.kept) in
     sym (few-below s c.args.marks.now c.requires.marked c.args.i c.requires.below u (sym c.is_few_below.ensures ∙ c.if-is_few_below.true))
-
-pub bounds-lengths-i : goal.bounds-lengths-i
-bounds-lengths-i c = omega (arith, c.requires.below, c.requires.lengths_long)
 
 pub loop-j-init : goal.loop-j-init
 loop-j-init c = (search rules, sym (count_none _))
 
-pub bounds-lengths-j : goal.bounds-lengths-j
-bounds-lengths-j c = omega (arith, c.requires.below, c.requires.lengths_long)
-
-pub bounds-ports-j : goal.bounds-ports-j
-bounds-ports-j c = omega (arith, c.requires.below, c.requires.ports_long)
-
-pub bounds-ports-i : goal.bounds-ports-i
-bounds-ports-i c = omega (arith, c.requires.below, c.requires.ports_long)
-
 pub overflow_add-n : goal.overflow_add-n
 overflow_add-n c =
-    let s = by_numbers c.args.ports.now c.args.lengths.now c.args.buffer.now in
+    let s = state c.args.t.now c.args.buffer.now in
     record { fits = omega (arith, c.requires.below, c.loop-j.invariant.1, count-le (passes s (own s c.args.i)) c.loop-j.j) }
 
 pub loop-j-preserved : goal.loop-j-preserved
 unfolding at
 loop-j-preserved c =
-    let s = by_numbers c.args.ports.now c.args.lengths.now c.args.buffer.now in
+    let s = state c.args.t.now c.args.buffer.now in
     let i = c.args.i in
     let j = c.loop-j.j in
     let told = asked s j i (omega (arith, c.requires.below)) c.requires.below c.lldpdu_at-l.ensures c.chassis_of-chassis.ensures c.is_by.ensures in
@@ -90,6 +78,6 @@ loop-j-preserved c =
 pub returns : goal.returns
 unfolding no_fourth
 returns c =
-    let s = by_numbers c.args.ports.now c.args.lengths.now c.args.buffer.now in
+    let s = state c.args.t.now c.args.buffer.now in
     let e : c.loop-j.j ≡ c.args.i = omega arith in
     ap (λ (n : ℕ). ltb n per_chassis) (c.loop-j.invariant.1 ∙ ap (count (passes s (own s c.args.i))) e)

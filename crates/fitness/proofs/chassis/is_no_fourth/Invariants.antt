@@ -6,8 +6,7 @@ use mathlib.Core.Bool.{Bool}
 use Rattle.tally.specs.Counts.{count}
 use Rattle.rules.specs.Identity.{Ident}
 use Rattle.rules.specs.Shares.{chassis_is}
-use Rattle.place.specs.State.{State, at, who_at, passes}
-use Rattle.fitness.specs.Beside.{by_numbers}
+use Rattle.place.specs.State.{State, state, at, who_at, passes}
 use Rattle.fitness.proofs.chassis.is_no_fourth.Given as goal
 
 -- what a record of the chassis of place i on its port passes
@@ -15,4 +14,4 @@ abbrev pub own : State → ℕ → Ident → Bool
 own s i = chassis_is (who_at (at s i)).port (who_at (at s i)).chassis
 
 abbrev pub invariant-loop-j : goal.invariant-loop-j
-invariant-loop-j l = (l.j ≤ l.i) × (l.n ≡ count (passes (by_numbers l.ports l.lengths l.buffer) (own (by_numbers l.ports l.lengths l.buffer) l.i)) l.j)
+invariant-loop-j l = (l.j ≤ l.i) × (l.n ≡ count (passes (state l.t l.buffer) (own (state l.t l.buffer) l.i)) l.j)

@@ -13,7 +13,7 @@ use Rattle.freeing.specs.Changes.{changed}
 use Rattle.freeing.proofs.ChangeLaws.{changed-is}
 use Rattle.freeing.proofs.FreedLaws.{behind, freed-put, unreached}
 use Rattle.freeing.proofs.change.change_all.Goals as goal
-use Rattle.freeing.proofs.change.change_all.Goals.{in-Goes, in-Stays}
+use Rattle.freeing.proofs.change.change_all.Goals.{in-None, in-Some}
 
 pub loop-i-init : goal.loop-i-init
 loop-i-init c = (search rules, (fit_length _ c.requires, sym (each_none _ _)))
@@ -42,16 +42,16 @@ loop-i-preserved c =
       (
         c.match-fate_of.auto.buffer ∙ l.invariant.1.0,
         elim c.match-fate_of.branch [
-          | in-Goes w ↦
+          | in-None w ↦
               more
               (change-puts (changed a.change) l.i s
               (ap₂ state w.u-is w.buffer-is ∙ freed-put s l.i c.loop-i-test.true l.invariant.1.0 ok w.clear_record.ensures)
-              (changed-is a.change x c.fate_of.ensures w.in-Goes.is))
-          | in-Stays w ↦
+              (changed-is a.change x c.fate_of.ensures w.in-None.is))
+          | in-Some w ↦
               more
               (change-puts (changed a.change) l.i s
-              (ap₂ state w.u-is w.buffer-is ∙ put-seconds s l.i w.in-Stays.left)
-              (changed-is a.change x c.fate_of.ensures w.in-Stays.is))
+              (ap₂ state w.u-is w.buffer-is ∙ put-seconds s l.i w.in-Some.left)
+              (changed-is a.change x c.fate_of.ensures w.in-Some.is))
         ],
       ),
     )

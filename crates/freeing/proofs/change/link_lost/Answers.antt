@@ -5,23 +5,20 @@ use Rattle.place.specs.State.{state}
 use Rattle.freeing.proofs.CallLaws.{lost-done, lost-port, lost-unfit}
 use Rattle.freeing.proofs.change.link_lost.Goals as goal
 
-pub change_all-u-requires : goal.change_all-u-requires
-change_all-u-requires c = sym c.is_fit.ensures ∙ c.if-is_fit.true
-
-pub returns-then-port-lt-PORTS : goal.returns-then-port-lt-PORTS
-returns-then-port-lt-PORTS c =
+pub returns-then-not-is_fit : goal.returns-then-not-is_fit
+returns-then-not-is_fit c =
     let a = c.args in
-    let s = state a.t a.buffer.now in
-    lost-done s a.port (sym c.is_fit.ensures ∙ c.if-is_fit.true) c.if-port-lt-PORTS.true c.change_all-u.ensures
+    lost-unfit (state a.t a.buffer.now) a.port (sym c.is_fit.ensures ∙ c.if-not-is_fit.true) c.refuse.ensures
 
-pub returns-then-is_fit : goal.returns-then-is_fit
-returns-then-is_fit c =
+pub returns-then-port-ge-PORTS : goal.returns-then-port-ge-PORTS
+returns-then-port-ge-PORTS c =
     let a = c.args in
-    let s = state a.t a.buffer.now in
-    lost-port s a.port (sym c.is_fit.ensures ∙ c.if-is_fit.true) c.if-port-lt-PORTS.false c.refuse.ensures
+    lost-port (state a.t a.buffer.now) a.port (sym c.is_fit.ensures ∙ c.if-not-is_fit.false) c.if-port-ge-PORTS.true c.refuse-then-port-ge-PORTS.ensures
+
+pub change_all-requires : goal.change_all-requires
+change_all-requires c = sym c.is_fit.ensures ∙ c.if-not-is_fit.false
 
 pub returns : goal.returns
 returns c =
     let a = c.args in
-    let s = state a.t a.buffer.now in
-    lost-unfit s a.port (sym c.is_fit.ensures ∙ c.if-is_fit.false) c.refuse-2.ensures
+    lost-done (state a.t a.buffer.now) a.port (sym c.is_fit.ensures ∙ c.if-not-is_fit.false) c.if-port-ge-PORTS.false c.change_all.ensures

@@ -6,8 +6,8 @@ use lib.ListN.{length, drop}
 use Rattle.walk.specs.Walk.{walk}
 use Rattle.lldpdu.proofs.extent.rest_extent.Given as goal
 
-abbrev pub invariant-loop-n : goal.invariant-loop-n
-invariant-loop-n l = (walk (drop l.at l.s) 0 l.at).extent ≡ (walk (drop l.from l.s) 0 l.from).extent
+abbrev pub invariant-loop-end : goal.invariant-loop-end
+invariant-loop-end l = (walk (drop l.at l.s) 0 l.at).extent ≡ (walk (drop l.from l.s) 0 l.from).extent
 
-abbrev pub decreases-loop-n : goal.decreases-loop-n
-decreases-loop-n l = length l.s - l.at
+abbrev pub decreases-loop-end : goal.decreases-loop-end
+decreases-loop-end l = length l.s - l.at

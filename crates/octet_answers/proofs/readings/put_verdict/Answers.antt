@@ -1,14 +1,16 @@
 -- `octet_answers::readings::put_verdict` meets its contract: two octets of length, then 1 or 0.
--- One octet is put behind two (puts_then).
-use mathlib.Core.Path.{sym, ap}
-use Rattle.tally.specs.Counts
-use Rattle.output.proofs.OutputLaws.{puts_then, puts-octet}
+-- One octet is put behind two (put_then).
+use mathlib.Core.Bool.{Bool, true, false}
+use Rattle.std.proofs.Common.{ℕ, ap, [], ◌∷◌}
+use mathlib.Core.Path.{◌≡◌, refl}
+use mir.Val.{bool_byte}
+use Rattle.tally.specs.Counts.{one}
+use Rattle.output.proofs.OutputLaws.{put_then, put_same}
 use Rattle.octet_answers.proofs.readings.put_verdict.Goals as goal
 
-pub returns-then-htip : goal.returns-then-htip
-returns-then-htip c =
-    puts_then _ _ _ c.put_two-a.ensures (puts-octet _ c.put_octet.ensures (sym (ap Counts.one c.if-htip.true)))
+byte-is-one : (b : Bool) → bool_byte b ≡ one b
+byte-is-one true = refl
+byte-is-one false = refl
 
 pub returns : goal.returns
-returns c =
-    puts_then _ _ _ c.put_two-a.ensures (puts-octet _ c.put_octet-2.ensures (sym (ap Counts.one c.if-htip.false)))
+returns c = put_then _ _ c.put_two.ensures (put_same c.put_octet.ensures (ap (λ (n : ℕ). n ∷ []) (byte-is-one c.args.r.htip)))
