@@ -4,7 +4,7 @@ ghost use Rattle.std.specs.Prelude.{◌<◌, ◌≤◌, length};
 
 use crate::print::{Form, say, say_reading, say_refused};
 use ids::IdPart;
-use input::{number_at, split_behind};
+use input::{number_at, split_behind, wide_at};
 use octets::{octet, pair};
 use reader::read_lldpdu;
 use reading::{Description, Link, Reading};
@@ -27,8 +27,8 @@ fn part_at(octets: &[u8], at: usize) -> Part
     requires { at < 900 }
 {
     Part {
-        start: number_at(octets, at, 8),
-        len: number_at(octets, at + 8, 8),
+        start: wide_at(octets, at),
+        len: wide_at(octets, at + 8),
     }
 }
 
@@ -76,7 +76,7 @@ fn capabilities_at(octets: &[u8]) -> Option<Capabilities> {
 // The count, and the four parts whatever it says.
 fn management_at(octets: &[u8]) -> Parts {
     Parts {
-        count: number_at(octets, 219, 8),
+        count: wide_at(octets, 219),
         parts: [
             part_at(octets, 227),
             part_at(octets, 243),
@@ -170,15 +170,19 @@ fn answer(
     room: usize,
 ) -> io::Result<()> {
     let mut longer = [UNTOUCHED; ROOM];
-    let out = &mut longer[..room.min(ROOM)];
-    let written = write(d, text, out);
-    say_answer(rt, case, written, out)
+    if let Some(out) = longer.get_mut(..room) {
+        let written = write(d, text, out);
+        return say_answer(rt, case, written, out);
+    }
+    // A case that asks for more room than there is: nothing is written.
+    say(rt, Form::Refused, &[case, 0], b"")?;
+    say_output(rt, case, &longer)
 }
 
 // The case at the front of the octets; what stands behind it.
 pub(crate) fn run_case<'a>(rt: &impl Print, case: usize, octets: &'a [u8]) -> io::Result<&'a [u8]> {
     let (text, behind) = split_behind(octets, HEAD, number_at(octets, 310, 2));
-    let room = number_at(octets, 308, 2);
+    let room = pair(octet(octets, 308), octet(octets, 309)) as usize;
     answer(rt, case, description_at(octets), text, room)?;
     Ok(behind)
 }

@@ -1,6 +1,6 @@
 // A record of the file `events`: a kind, a number of eight octets, a value of two, an address, a length of two.
 // As many octets as the length says follow it; they are a frame.
-use input::number_at;
+use input::wide_at;
 use octets::{octet, pair, six};
 
 // The octets of a record before its frame.
@@ -19,9 +19,9 @@ pub(crate) struct Record {
 pub(crate) fn record_at(octets: &[u8]) -> Record {
     Record {
         kind: octet(octets, 0),
-        number: number_at(octets, 1, 8),
+        number: wide_at(octets, 1),
         value: pair(octet(octets, 9), octet(octets, 10)),
         address: six(octets, 11),
-        length: number_at(octets, 17, 2),
+        length: pair(octet(octets, 17), octet(octets, 18)) as usize,
     }
 }

@@ -14,3 +14,7 @@ counted_on n (b ∷ l) = counted_on ((n * 256 % 2 ^ 64 + b) % 2 ^ 64) l
 -- the number in n octets at a place
 abbrev pub number_at : List ℕ → ℕ → ℕ → ℕ
 number_at l at n = counted_on 0 (take n (drop at l))
+
+-- the number in eight octets at a place, as two of four; where the file ends inside one, that one is of the octets that are there
+abbrev pub wide_at : List ℕ → ℕ → ℕ
+wide_at l at = (number_at l at 4 * 4294967296 % 2 ^ 64 + number_at (drop 4 (drop at l)) 0 4) % 2 ^ 64

@@ -7,7 +7,7 @@ ghost use Rattle.input.specs.Stored.{room_of};
 
 mod record;
 
-pub use record::{number_at, split_behind};
+pub use record::{number_at, split_behind, wide_at};
 use std::fs::File;
 use std::io::{Read, Write};
 use std::rt::Files;

@@ -16,7 +16,7 @@ use Rattle.tally.proofs.TestsLaws.{both_true}
 use Rattle.octets.specs.Header.{length_in}
 use Rattle.walk.specs.Walk.{Extent, header, head_of}
 use Rattle.lldpdu.specs.Extent.{length_at, port_place, seconds_place, id_in, is_chassis, is_port, seconds_ok, need, rest_of, behind_port, behind_chassis, extent_of}
-use Rattle.lldpdu.specs.Outline.{outline_at, outline_of, extent_in}
+use Rattle.lldpdu.specs.Outline.{outline_at, outline_of, extent_in, seconds_told}
 use Rattle.ids.specs.Id.{id, chassis_ok, port_ok}
 use Rattle.ids.proofs.IdLaws.{chassis-short, port-short, no-chassis, no-port}
 use Rattle.walk.proofs.WalkLaws.{whole, whole-fits}
@@ -129,3 +129,7 @@ extent-at (Err r) l = refl
 pub outline-extent : (l : List ℕ) → extent_in (outline_of l) ≡ extent_of l
 unfolding outline_of
 outline-extent l = extent-at (extent_of l) l
+
+-- beside a refusal there are no seconds (Q2)
+pub refused-seconds : (l : List ℕ) {r : Refusal} → outline_of l ≡ Err r → seconds_told (outline_of l) ≡ 0
+refused-seconds l e = ap seconds_told e

@@ -14,10 +14,13 @@ use std::io;
 // More octets than the file has.
 const FILE: usize = 2000000;
 
+// Of no file are as many records looked at; the stored one has fewer.
+const RECORDS: usize = 100000;
+
 fn run_all(rt: &impl Print, file: &[u8], store: &mut [u8], store2: &mut [u8]) -> io::Result<()> {
     let mut sides = two_empty();
     let mut rest = file;
-    for number in 1.. {
+    for number in 1..RECORDS {
         if rest.is_empty() {
             break;
         }

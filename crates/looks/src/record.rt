@@ -22,7 +22,7 @@ pub(crate) fn record_at(octets: &[u8]) -> Record {
     Record {
         kind: octet(octets, 0),
         side: octet(octets, 1),
-        place: number_at(octets, 2, 2),
+        place: pair(octet(octets, 2), octet(octets, 3)) as usize,
         port: octet(octets, 4),
         seconds: pair(octet(octets, 5), octet(octets, 6)),
         sender: six(octets, 7),
