@@ -1,4 +1,4 @@
--- Ok behind the End TLV never matter (L8): a valid LLDPDU followed by anything else has the same extent and outline.
+-- Octets behind the End TLV never matter (L8): a valid LLDPDU followed by anything else has the same extent and outline.
 -- The walk first, then the first three TLVs, then the outline.
 use Prim.Native.Nat.{ℕ, zero, suc, ◌+◌, ◌-◌, ◌<◌, ◌≤◌}
 use mathlib.Core.Path.{◌≡◌, refl, sym, ap, ap₂, ◌∙◌}

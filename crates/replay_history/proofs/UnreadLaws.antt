@@ -1,4 +1,4 @@
--- None behind the last frame is looked at (C6): a file whose front hands over as many frames as the limit says makes the calls of that front.
+-- Nothing behind the last frame is looked at (C6): a file whose front hands over as many frames as the limit says makes the calls of that front.
 -- Over the definitions alone; a record at the front of a file is the same whatever follows it.
 use Prim.Native.Nat.{ℕ, zero, suc, ◌+◌, ◌<◌, ◌≤◌}
 use mathlib.Core.Path.{◌≡◌, refl, sym, ap, ◌∙◌}
