@@ -206,3 +206,8 @@ valid-naming s a v = sym (ap (λ (x : Extent). naming_at x s a) v)
 -- the one answer says what it should
 pub names-exactly : (s a : List ℕ) {r : Answer} → r ≡ naming_of s a → Names s a r
 names-exactly s a e = record { exact = e; refusal = ap refusal_of e ∙ naming-refusal s a; numbers = ap numbers_of e ∙ naming-numbers s a }
+
+-- a refusal alone
+pub names_refused : (s a : List ℕ) {r : Refusal} → extent_of s ≡ Err r → Names s a (Err r)
+unfolding naming_of
+names_refused s a e = names-exactly s a (sym (ap (λ (x : Extent). naming_at x s a) e))

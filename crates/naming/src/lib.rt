@@ -112,6 +112,7 @@ pub fn rest_naming(s: &[u8], address: [u8; 6]) -> Option<Naming>
     naming_from(s, rest_place(s), address)
 }
 
+#[tactic(auto, using(crate::proofs::NamingLaws::names_refused))]
 pub fn link_naming(s: &[u8], address: [u8; 6]) -> Result<Option<Naming>, Refusal>
     ensures { Names s.now address result }
 {

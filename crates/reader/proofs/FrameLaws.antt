@@ -1,7 +1,7 @@
 -- Laws of the frame: the answer on a frame by whether it fits, and what a valid one has (A5).
--- The code on a frame cites on-good and on-bad; frame-exactly adds what the one answer means.
+-- Each answer on a frame rests on on-good and on-bad; frame-exactly adds what the one answer means, and the two returns of the reader cite it.
 use Prim.Native.Nat.{ℕ, ◌≤◌}
-use mathlib.Core.Path.{◌≡◌, refl, ap, ◌∙◌}
+use mathlib.Core.Path.{◌≡◌, refl, sym, ap, ◌∙◌}
 use mathlib.Core.List.{List}
 use mathlib.Core.Bool.{Bool, true, false, not}
 use borrow.Author.Tests.{leb-true, not-true}
@@ -13,7 +13,7 @@ use Rattle.std.specs.Prelude.{Result, Err}
 use Rattle.refusal.specs.declared.Refusal.{Refusal}
 use Rattle.refusal.specs.declared.Refusal.TheVariants.{NoFrame}
 use Rattle.reading.specs.Reading.{reading_of}
-use Rattle.reading.specs.Meaning.{refused_answer, answer_of, meant}
+use Rattle.reading.specs.Meaning.{refused_answer, answer_of, meant, Reads}
 use Rattle.reader.specs.Frame.{source_of, frame_tests, frame_ok, on_frame, ReadsFrame}
 use Rattle.reading.proofs.MeaningLaws.{reading-means}
 use Rattle.reading.specs.declared.Reading.{Reading}
@@ -50,3 +50,11 @@ frame-exactly f e = record { exact = e; means = ap (meant (drop 14 f)) e ∙ go 
     go : (b : Bool) → meant (drop 14 f) (pick b (reading_of (drop 14 f)) (Err NoFrame)) ≡ pick b (answer_of (drop 14 f)) (refused_answer 3)
     go true = reading-means (drop 14 f)
     go false = refl
+
+-- each return of the reader on a frame
+module _ (f : List ℕ) {r : Result Reading Refusal} where
+  pub frame-refused : frame_ok f ≡ false → r ≡ Err NoFrame → ReadsFrame f r
+  frame-refused e q = frame-exactly f (q ∙ sym (on-bad _ reading_of f e))
+
+  pub frame-read : {l : List ℕ} → frame_ok f ≡ true → l ≡ drop 14 f → Reads l r → ReadsFrame f r
+  frame-read e q h = frame-exactly f (h.exact ∙ ap reading_of q ∙ sym (on-good _ reading_of f e))

@@ -66,5 +66,6 @@ pub fn outline_frame(f: &[u8]) -> Result<Outline, Refusal>
 pub fn read_frame(f: &[u8]) -> Result<Reading, Refusal>
     ensures { ReadsFrame f.now result }
 {
-    read_lldpdu(lldpdu_of(f)?)
+    let l = lldpdu_of(f)?;
+    read_lldpdu(l)
 }

@@ -229,3 +229,14 @@ module _ (s : List ℕ) {from : ℕ} (t : front_of s ≡ Ok from) {v : Survey} (
       let d = y ∙ ap₂ (description_at s) o found-is in
       let h = x ∙ ap htip_in found-is in
       (λ i. Ok (record { octets = e; htip = h i; description = d i })) ∙ by-extent s (extent-is u)
+
+-- a refusal of the first three TLVs, which is all of the answer
+pub refused_front : (s : List ℕ) {r : Refusal} → outline_at (front_of s) s ≡ Err r → front_of s ≡ Err r
+refused_front s {r} e = go (front_of s) refl e
+  where
+    go : (x : Extent) → front_of s ≡ x → outline_at x s ≡ Err r → front_of s ≡ Err r
+    go (Err m) q w = let z : r ≡ m = cc in q ∙ ap Err (sym z)
+    go (Ok e) q w = cc
+
+pub reads_front : (s : List ℕ) {r : Refusal} → front_of s ≡ Err r → Reads s (Err r)
+reads_front s e = reads-exactly s (by-extent s (front-refused s e))
