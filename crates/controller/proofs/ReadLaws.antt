@@ -45,7 +45,7 @@ use Rattle.reader.specs.Frame.{frame_ok, on_frame}
 use Rattle.reader.proofs.FrameLaws.{frame-size}
 use Rattle.octet_description.specs.Octets.{description_octets, description_in}
 use Rattle.octet_description.proofs.OctetsLaws.{SmallPart, SmallOptional, SmallLink, SmallFlags, SmallParts, Small, octets-back}
-use Rattle.octet_answers.specs.Answers.{Back, back, read_right, on_reading, verdict_octets, read_answer}
+use Rattle.octet_answers.specs.Answers.{in_numbers, Back, back, read_right, on_reading, verdict_octets, read_answer}
 use Rattle.exports.specs.Calls.{frame_reading, looked_at}
 use Rattle.exports.proofs.tambolune_read.Kinds as read-kinds
 use Rattle.exports.proofs.tambolune_read.Reads as read
@@ -233,13 +233,13 @@ pub record Crossed (x : Result Reading Refusal) (a d : List ℕ) : Type 0 where
 
 -- what was read was answered, into an answer and a description of the right lengths
 module _ (q : Result Reading Refusal) (many : Numbered q) (small : SmallReading q) (a d : List ℕ) (right : read_right a d ≡ true)
-    (r : ℕ) (a' d' : List ℕ) (exact : back r (a' ∷ d' ∷ []) ≡ read_answer q a d) (zero_is : r ≡ 0) where
+    (r : ℕ) (a' d' : List ℕ) (exact : back r (a' ∷ d' ∷ []) ≡ read_answer (in_numbers q) a d) (zero_is : r ≡ 0) where
   crossed : Crossed q a' d'
   unfolding read_answer
   crossed = go q refl many small (rw right at exact)
     where
       go : (x : Result Reading Refusal) → q ≡ x → Numbered x → SmallReading x
-          → back r (a' ∷ d' ∷ []) ≡ on_reading x (a ∷ d ∷ []) (λ y. verdict_octets y ∷ description_octets y.description ∷ [])
+          → back r (a' ∷ d' ∷ []) ≡ on_reading (in_numbers x) (a ∷ d ∷ []) (λ y. verdict_octets y ∷ description_octets y.description ∷ [])
           → Crossed q a' d'
       go (Err n) v h m e = absurd (omega (arith, ap (λ (b : Back). b.returned) e))
       go (Ok y) v h m e =

@@ -29,6 +29,7 @@ use Rattle.reading.specs.declared.Reading.{Reading}
 use Rattle.reading.specs.declared.Description.{Description}
 use Rattle.writer.specs.Write.{Written, write_of, Writes}
 use Rattle.rules.specs.Answers.{Answered}
+use Rattle.rules.specs.declared.Reply.{Reply}
 use Rattle.numbers.specs.declared.Table.{Table}
 use Rattle.place.specs.State.{State, state}
 use Rattle.freeing.specs.Calls.{After, Answer, after, state_after}
@@ -44,7 +45,8 @@ use Rattle.octet_table.specs.Lent.{Lent, lengths_ok, lent_of, Puts}
 use Rattle.octet_table.proofs.LentLaws.{again}
 use Rattle.octet_description.specs.Octets.{description_octets, description_in, presences_ok}
 use Rattle.octet_answers.specs.Answers as answers
-use Rattle.octet_answers.specs.Answers.{Back, back, if_right, written_long, count_long, sight_long, judge_right, read_right, on_reading, verdict_octets, judged_octets, judged, read_answer, written, written_octets, reply_long, reply_octets, replied, count_octets, sight_octets}
+use Rattle.octet_answers.proofs.AnswersLaws.{written-numbers, reply-numbers}
+use Rattle.octet_answers.specs.Answers.{in_numbers, number_in, Back, back, if_right, written_long, count_long, sight_long, judge_right, read_right, on_reading, verdict_octets, judged_octets, judged, read_answer, written, written_octets, reply_long, reply_octets, replied, count_octets, sight_octets}
 use Rattle.exports.specs.Calls.{Gives, Changes, address_long, due_if_right, write_right, on_written, writing, refusal_on_writing, state_in, table_slices, state_slices, after_call, frame_right, framing, count_right, counting, see_right, seeing}
 
 -- What is to be shown of what an export gives, once it is known to be b
@@ -70,7 +72,7 @@ numbered {ss = ss} e h = ap (λ (k : ℕ). back k ss) e ∙ h
 -- A reading
 
 reading-gives : (right : Bool) (q : Result Reading Refusal) (ss : List (List ℕ)) (f : Reading → List (List ℕ)) (due : ℕ) {b : Back}
-    → b ≡ if_right right ss (on_reading q ss f) → refusal_of q ≡ due → Gives ss (if_right right ss (on_reading q ss f)) (due_if_right right due) b
+    → b ≡ if_right right ss (on_reading (in_numbers q) ss f) → refusal_of q ≡ due → Gives ss (if_right right ss (on_reading (in_numbers q) ss f)) (due_if_right right due) b
 reading-gives true (Err r) ss f due e d = gives e d (λ h. refl)
 reading-gives true (Ok r) ss f due e d = gives e d (λ h. absurd (h refl))
 reading-gives false q ss f due e d = gives e refl (λ h. refl)
@@ -91,20 +93,23 @@ lldpdu-due s e = ap (λ (x : Result Reading Refusal). refusal_of x) e.exact ∙ 
     go (Err r) = refl
     go (Ok n) = refl
 
--- the reading r that the code has in hand is q
-module _ (r q : Result Reading Refusal) (same : r ≡ q) (due : ℕ) (d : refusal_of r ≡ due) (a : List ℕ) where
+-- the reading r that the code has in hand is q, and n is r with the number of its refusal
+module _ (r q : Result Reading Refusal) (same : r ≡ q) {n : Result Reading ℕ} (numbers : n ≡ in_numbers r) (due : ℕ) (d : refusal_of r ≡ due) (a : List ℕ) where
   number : refusal_of q ≡ due
   number = sym (ap (λ (x : Result Reading Refusal). refusal_of x) same) ∙ d
 
-  pub judged-gives : {b : Back} → b ≡ judged r a → Gives (a ∷ []) (judged q a) (due_if_right (judge_right a) due) b
-  unfolding judged
-  judged-gives e = reading-gives (judge_right a) q (a ∷ []) (λ x. judged_octets x ∷ []) due (e ∙ ap (λ (x : Result Reading Refusal). judged x a) same) number
+  numbered-same : n ≡ in_numbers q
+  numbered-same = numbers ∙ ap (λ (x : Result Reading Refusal). in_numbers x) same
 
-  pub read-gives : (s : List ℕ) {b : Back} → b ≡ read_answer r a s → Gives (a ∷ s ∷ []) (read_answer q a s) (due_if_right (read_right a s) due) b
+  pub judged-gives : {b : Back} → b ≡ judged n a → Gives (a ∷ []) (judged (in_numbers q) a) (due_if_right (judge_right a) due) b
+  unfolding judged
+  judged-gives e = reading-gives (judge_right a) q (a ∷ []) (λ x. judged_octets x ∷ []) due (e ∙ ap (λ (x : Result Reading ℕ). judged x a) numbered-same) number
+
+  pub read-gives : (s : List ℕ) {b : Back} → b ≡ read_answer n a s → Gives (a ∷ s ∷ []) (read_answer (in_numbers q) a s) (due_if_right (read_right a s) due) b
   unfolding read_answer
   read-gives s e =
       reading-gives (read_right a s) q (a ∷ s ∷ []) (λ x. verdict_octets x ∷ description_octets x.description ∷ []) due
-      (e ∙ ap (λ (x : Result Reading Refusal). read_answer x a s) same) number
+      (e ∙ ap (λ (x : Result Reading ℕ). read_answer x a s) numbered-same) number
 
 -- An announcement: the octets o of a description, the text s, the output and the answer a
 
@@ -126,12 +131,13 @@ module _ (o s out a : List ℕ) where
   presence-gives r p = write-gives (write_right o a) (presences_ok o) (write_of s d (length out)) (rw (r, p) refl)
 
   -- what the writer answered w, with the output then holding u, and the answer v
-  pub written-gives : {e : Description} {w : Written} {n : ℕ} (u v : List ℕ) → length a ≡ written_long → write_right o a ≡ true → presences_ok o ≡ true
-      → e ≡ d → Writes s e out w u → back n (v ∷ []) ≡ written w a
+  pub written-gives : {e : Description} {w : Written} {m : Result ℕ ℕ} {n : ℕ} (u v : List ℕ) → length a ≡ written_long → write_right o a ≡ true → presences_ok o ≡ true
+      → e ≡ d → Writes s e out w u → m ≡ in_numbers w → back n (v ∷ []) ≡ written m a
       → Gives (out ∷ a ∷ []) (writing o s out a) (due_if_right (write_right o a) (refusal_on_writing o s out)) (back n (u ∷ v ∷ []))
   unfolding writing refusal_on_writing written
-  written-gives {e} {w} {n} u v l r p q h k =
-      let z : back n (v ∷ []) ≡ back (refusal_of w) (written_octets w a ∷ []) = rw (eq-eqb (length a) written_long l) at k in
+  written-gives {e} {w} {m} {n} u v l r p q h i k =
+      let told : back n (v ∷ []) ≡ back (number_in m) (written_octets m a ∷ []) = rw (eq-eqb (length a) written_long l) at k in
+      let z = told ∙ ap (λ (x : Result ℕ ℕ). back (number_in x) (written_octets x a ∷ [])) i ∙ written-numbers w a in
       let y : back n (u ∷ v ∷ []) ≡ on_written w s e out a = ap₂ (λ (x : Back) (m : List ℕ). back x.returned (m ∷ x.slices)) z h.output in
       let x : on_written w s e out a ≡ on_written (write_of s d (length out)) s d out a =
       ap₂ (λ (x : Written) (y : Description). on_written x s y out a) (h.exact ∙ ap (λ (y : Description). write_of s y (length out)) q) q in
@@ -190,14 +196,15 @@ module _ (x y : Lent) (b c : List ℕ) (t : Table) (right : lengths_ok x ≡ tru
         go (Ok r) e z = absurd (z refl)
         go (Err r) e z = ap (λ (l : List (List ℕ)). l ++ (a ∷ [])) (same-octets (state_told heard_now) (unchanged r e))
 
-    pub frame-changes : (due : ℕ) {n : ℕ} (o : Reception) → o.table ≡ t → length a ≡ reply_long → hearing.told o c ≡ heard_now → refusal_of o.reply ≡ due
-        → back n (v ∷ []) ≡ replied o.reply a
+    pub frame-changes : (due : ℕ) {n : ℕ} {m : Result Reply ℕ} (o : Reception) → o.table ≡ t → length a ≡ reply_long → hearing.told o c ≡ heard_now → refusal_of o.reply ≡ due
+        → m ≡ in_numbers o.reply → back n (v ∷ []) ≡ replied m a
         → Changes (frame_right x a) (table_slices x b ++ (a ∷ [])) (framing p h x b a) (due_if_right (frame_right x a) due) (state_told heard_now) (state_in y c) (back n (table_slices y c ++ (v ∷ [])))
     unfolding framing replied
-    frame-changes due {n} o own l e d k =
+    frame-changes due {n} {m} o own l e d i k =
         let left : state t c ≡ state_told heard_now = ap (λ (z : Table). state z c) (sym own) ∙ ap state_told e in
-        let told : back n (v ∷ []) ≡ back (refusal_of o.reply) (reply_octets o.reply a ∷ []) = rw (eq-eqb (length a) reply_long l) at k in
-        let answer = told ∙ ap (λ (z : Told). back (refusal_of z.outcome.reply) (reply_octets z.outcome.reply a ∷ [])) e in
+        let told : back n (v ∷ []) ≡ back (number_in m) (reply_octets m a ∷ []) = rw (eq-eqb (length a) reply_long l) at k in
+        let same = told ∙ ap (λ (z : Result Reply ℕ). back (number_in z) (reply_octets z a ∷ [])) i ∙ reply-numbers o.reply a in
+        let answer = same ∙ ap (λ (z : Told). back (refusal_of z.outcome.reply) (reply_octets z.outcome.reply a ∷ [])) e in
         let number = ap (λ (z : Told). refusal_of z.outcome.reply) e in
         record {
           gives =
@@ -213,24 +220,25 @@ whole-six w e = six-there w 0 (omega (arith, e)) ∙ take_all 6 w (omega (arith,
 -- A question about the table that slices x and a buffer b mean, with the answer a
 
 module _ (x : Lent) (b a : List ℕ) (long : lengths_ok x ≡ true) where
-  pub count_gives : (p due : ℕ) {r : Back} {q : Result ℕ Refusal} → q ≡ questions.counted p (state_in x b) → refusal_of q ≡ due → r ≡ answers.counted q a
+  pub count_gives : (p due : ℕ) {r : Back} {q : Result ℕ Refusal} {m : Result ℕ ℕ} → q ≡ questions.counted p (state_in x b) → refusal_of q ≡ due → m ≡ in_numbers q → r ≡ answers.counted m a
       → Gives (a ∷ []) (counting p x b a) (due_if_right (count_right x a) due) r
   unfolding counting answers.counted
-  count_gives p due {r} {q} e d k = rw long (go (eqb (length a) count_long) (questions.counted p (state_in x b)) (sym (ap refusal_of e) ∙ d) (k ∙ ap (λ (z : Result ℕ Refusal). answers.counted z a) e))
+  count_gives p due {r} {q} e d i k =
+      rw long (go (eqb (length a) count_long) (questions.counted p (state_in x b)) (sym (ap refusal_of e) ∙ d) (k ∙ ap (λ (z : Result ℕ ℕ). answers.counted z a) (i ∙ ap (λ (z : Result ℕ Refusal). in_numbers z) e)))
     where
-      go : (t : Bool) (z : Result ℕ Refusal) → refusal_of z ≡ due → r ≡ if_right t (a ∷ []) (back (refusal_of z) (count_octets z a ∷ []))
+      go : (t : Bool) (z : Result ℕ Refusal) → refusal_of z ≡ due → r ≡ if_right t (a ∷ []) (back (number_in (in_numbers z)) (count_octets (in_numbers z) a ∷ []))
           → Gives (a ∷ []) (if_right t (a ∷ []) (back (refusal_of z) (count_octets z a ∷ []))) (due_if_right t due) r
       go true (Ok n) d k = gives k d (λ h. absurd (h refl))
       go true (Err n) d k = gives k d (λ h. refl)
       go false z d k = gives k refl (λ h. refl)
 
-  pub sight-gives : (w : List ℕ) (from due : ℕ) {r : Back} {q : Result (Option Sight) Refusal} → eqb (length w) address_long ≡ true → q ≡ sight w from (state_in x b) → refusal_of q ≡ due → r ≡ answers.seen q a
+  pub sight-gives : (w : List ℕ) (from due : ℕ) {r : Back} {q : Result (Option Sight) Refusal} {m : Result (Option Sight) ℕ} → eqb (length w) address_long ≡ true → q ≡ sight w from (state_in x b) → refusal_of q ≡ due → m ≡ in_numbers q → r ≡ answers.seen m a
       → Gives (a ∷ []) (seeing w from x b a) (due_if_right (see_right x w a) due) r
   unfolding seeing answers.seen
-  sight-gives w from due {r} {q} six e d k =
-      rw (long, six) (rw (both_end (eqb (length a) sight_long)) (go (eqb (length a) sight_long) (sight w from (state_in x b)) (sym (ap refusal_of e) ∙ d) (k ∙ ap (λ (z : Result (Option Sight) Refusal). answers.seen z a) e)))
+  sight-gives w from due {r} {q} six e d i k =
+      rw (long, six) (rw (both_end (eqb (length a) sight_long)) (go (eqb (length a) sight_long) (sight w from (state_in x b)) (sym (ap refusal_of e) ∙ d) (k ∙ ap (λ (z : Result (Option Sight) ℕ). answers.seen z a) (i ∙ ap (λ (z : Result (Option Sight) Refusal). in_numbers z) e))))
     where
-      go : (t : Bool) (z : Result (Option Sight) Refusal) → refusal_of z ≡ due → r ≡ if_right t (a ∷ []) (back (refusal_of z) (sight_octets z a ∷ []))
+      go : (t : Bool) (z : Result (Option Sight) Refusal) → refusal_of z ≡ due → r ≡ if_right t (a ∷ []) (back (number_in (in_numbers z)) (sight_octets (in_numbers z) a ∷ []))
           → Gives (a ∷ []) (if_right t (a ∷ []) (back (refusal_of z) (sight_octets z a ∷ []))) (due_if_right t due) r
       go true (Err n) d k = gives k d (λ h. refl)
       go true (Ok None) d k = gives k d (λ h. absurd (h refl))

@@ -21,7 +21,8 @@ use Rattle.compare.specs.Compare.{refusal_on_comparing, entries_between, octets_
 use Rattle.compare.specs.Compare as compare
 use Rattle.octet_table.specs.Lent.{Lent, lengths_ok, table_in}
 use Rattle.octet_answers.specs.Answers as answers
-use Rattle.octet_answers.specs.Answers.{Back, back, compared_long, compared_octets}
+use Rattle.octet_answers.specs.Answers.{in_numbers, number_in, Back, back, compared_long, compared_octets}
+use Rattle.octet_answers.proofs.AnswersLaws.{compared-numbers}
 use Rattle.exports.specs.Calls.{Gives, due_if_right, state_in, compare_right, on_looked, comparing}
 use Rattle.exports.proofs.GivesLaws.{gives, right-gives}
 
@@ -43,14 +44,15 @@ refused-octets (Err n) a h = refl
 
 -- the slices x and y mean the tables t and u, with the buffers b and d; the list l then holds m, and the answer a holds v
 module _ (x y : Lent) (b d l a : List ℕ) (first : lengths_ok x ≡ true) (second : lengths_ok y ≡ true) (long : length a ≡ compared_long) where
-  pub compare-gives : {t u : Table} {c : Result ℕ Refusal} {m v : List ℕ} {n : ℕ} → t ≡ table_in x → u ≡ table_in y → compare.Compares (state t b) (state u d) l c m
-      → back n (v ∷ []) ≡ answers.compared_answer c a
+  pub compare-gives : {t u : Table} {c : Result ℕ Refusal} {p : Result ℕ ℕ} {m v : List ℕ} {n : ℕ} → t ≡ table_in x → u ≡ table_in y → compare.Compares (state t b) (state u d) l c m
+      → p ≡ in_numbers c → back n (v ∷ []) ≡ answers.compared_answer p a
       → Gives (l ∷ a ∷ []) (comparing x b y d l a) (due_if_right (compare_right x y a) (refusal_on_comparing (state_in x b) (state_in y d) (length l))) (back n (m ∷ v ∷ []))
   unfolding comparing answers.compared_answer
-  compare-gives {t} {u} {c} {m} {v} {n} e f g k =
+  compare-gives {t} {u} {c} {p} {m} {v} {n} e f g i k =
       let h : compare.Compares (state_in x b) (state_in y d) l c m = rw (e, f) at g in
       let w = compared (state_in x b) (state_in y d) l in
-      let told : back n (v ∷ []) ≡ back (refusal_of c) (compared_octets c a ∷ []) = rw (eq-eqb (length a) compared_long long) at k in
+      let given : back n (v ∷ []) ≡ back (number_in p) (compared_octets p a ∷ []) = rw (eq-eqb (length a) compared_long long) at k in
+      let told = given ∙ ap (λ (z : Result ℕ ℕ). back (number_in z) (compared_octets z a ∷ [])) i ∙ compared-numbers c a in
       let right : compare_right x y a ≡ true = rw (first, second, eq-eqb (length a) compared_long long) in
       right-gives right
       (gives

@@ -21,7 +21,7 @@ use Rattle.questions.specs.Sight.{counted, sight}
 use Rattle.compare.specs.Compare.{refusal_on_comparing, Looked, compared}
 use Rattle.octet_table.specs.Lent.{Lent, lengths_ok, table_in, lent_of}
 use Rattle.octet_description.specs.Octets.{size, description_in, presences_ok}
-use Rattle.octet_answers.specs.Answers.{Back, back, if_right, judge_right, judged, read_right, read_answer, written_long, reply_long, count_long, sight_long, compared_long, written_octets, reply_octets, count_octets, sight_octets, compared_octets}
+use Rattle.octet_answers.specs.Answers.{in_numbers, Back, back, if_right, judge_right, judged, read_right, read_answer, written_long, reply_long, count_long, sight_long, compared_long, written_octets, reply_octets, count_octets, sight_octets, compared_octets}
 
 abbrev pub due_if_right : Bool → ℕ → ℕ
 due_if_right right n = pick right n 1
@@ -127,10 +127,10 @@ comparing x b y d l a = if_right (compare_right x y a) (l ∷ a ∷ []) (on_look
 -- The contract of each export: what it was lent, what the slices then hold (behind a stroke where both are named), and what it returned
 
 abbrev pub Judges : List ℕ → List ℕ → List ℕ → ℕ → Type 0
-Judges f a a' r = Gives (a ∷ []) (judged (frame_reading f) a) (due_if_right (judge_right a) (frame_refusal f)) (back r (a' ∷ []))
+Judges f a a' r = Gives (a ∷ []) (judged (in_numbers (frame_reading f)) a) (due_if_right (judge_right a) (frame_refusal f)) (back r (a' ∷ []))
 
 abbrev pub Tells : Result Reading Refusal → ℕ → List ℕ → List ℕ → List ℕ → List ℕ → ℕ → Type 0
-Tells q due a d a' d' r = Gives (a ∷ d ∷ []) (read_answer q a d) (due_if_right (read_right a d) due) (back r (a' ∷ d' ∷ []))
+Tells q due a d a' d' r = Gives (a ∷ d ∷ []) (read_answer (in_numbers q) a d) (due_if_right (read_right a d) due) (back r (a' ∷ d' ∷ []))
 
 abbrev pub TellsFrame : List ℕ → List ℕ → List ℕ → List ℕ → List ℕ → ℕ → Type 0
 TellsFrame f = Tells (frame_reading f) (frame_refusal f)

@@ -3,9 +3,10 @@
 ghost use Rattle.std.specs.Prelude.{◌≡◌};
 ghost use Rattle.refusal.specs.Refusal.{refusal_of};
 ghost use Rattle.octet_table.specs.Lent.{lent};
+ghost use Rattle.octet_answers.specs.Answers.{in_numbers, number_in};
 ghost use Rattle.exports.specs.Calls.{capped_of, Starts, Hears, Passes, Loses, Counts, Sees};
 
-use octet_answers::{REPLY, answer_count, answer_reply, answer_sight};
+use octet_answers::{REPLY, WRONG_LENGTH, answer_count, answer_reply, answer_sight};
 use octet_table::{lengths_fit, put_table, table_in};
 use octets::six;
 use refusal::Refusal;
@@ -17,9 +18,6 @@ pub(crate) const ADDRESS: usize = 6;
 // No record has more seconds left, so more than that act as that many (X6).
 const LONGEST: usize = 65535;
 
-// What a slice of a wrong length gives (X2).
-pub(crate) const WRONG_LENGTH: u8 = Refusal::Unfit as u8;
-
 // The number of a refusal, and 0 where there is none.
 pub(crate) fn refusal_of(answer: Result<(), Refusal>) -> u8
     ensures { result ≡ refusal_of answer }
@@ -27,6 +25,26 @@ pub(crate) fn refusal_of(answer: Result<(), Refusal>) -> u8
     match answer {
         Ok(()) => 0,
         Err(refusal) => u8::from(refusal),
+    }
+}
+
+// What is answered, with the number of its refusal.
+pub(crate) fn in_numbers<T>(answer: Result<T, Refusal>) -> Result<T, u8>
+    ensures { result ≡ in_numbers answer }
+{
+    match answer {
+        Ok(said) => Ok(said),
+        Err(refusal) => Err(u8::from(refusal)),
+    }
+}
+
+// The number that came back, and 0 where there is none.
+pub(crate) fn number_in(answer: Result<(), u8>) -> u8
+    ensures { result ≡ number_in answer }
+{
+    match answer {
+        Ok(()) => 0,
+        Err(number) => number,
     }
 }
 
@@ -74,7 +92,7 @@ pub fn tambolune_frame_on_port(
         frame,
     );
     put_table(r.table, ports, seconds, lengths, senders);
-    refusal_of(answer_reply(answer, r.reply))
+    number_in(answer_reply(answer, in_numbers(r.reply)))
 }
 
 fn capped(seconds: usize) -> u16
@@ -141,7 +159,7 @@ pub fn tambolune_how_many(
         return WRONG_LENGTH;
     }
     let count = how_many(table_in(ports, seconds, lengths, senders), buffer, port);
-    refusal_of(answer_count(answer, count))
+    number_in(answer_count(answer, in_numbers(count)))
 }
 
 // Refusal 1.
@@ -168,5 +186,5 @@ pub fn tambolune_who_sees(
         six(address, 0),
         start,
     );
-    refusal_of(answer_sight(answer, sight))
+    number_in(answer_sight(answer, in_numbers(sight)))
 }

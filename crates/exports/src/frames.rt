@@ -2,8 +2,8 @@
 // A part of what is read counts from the first octet of the LLDPDU, which in a frame stands behind the header (X5).
 ghost use Rattle.exports.specs.Calls.{Judges, TellsFrame, TellsLldpdu, Writes};
 
-use crate::calls::{WRONG_LENGTH, refusal_of};
-use octet_answers::{WRITTEN, answer_judged, answer_reading, answer_written};
+use crate::calls::{in_numbers, number_in};
+use octet_answers::{WRITTEN, WRONG_LENGTH, answer_judged, answer_reading, answer_written};
 use octet_description::{SIZE, description_in, presences_fit};
 use reader::{read_frame, read_lldpdu};
 use refusal::Refusal;
@@ -14,14 +14,14 @@ use writer::write;
 pub fn tambolune_judge(frame: &[u8], answer: &mut [u8]) -> u8
     ensures { Judges frame.now answer.old answer.new result }
 {
-    refusal_of(answer_judged(answer, read_frame(frame)))
+    number_in(answer_judged(answer, in_numbers(read_frame(frame))))
 }
 
 // Refusals 1, 3 to 6.
 pub fn tambolune_read(frame: &[u8], answer: &mut [u8], description: &mut [u8]) -> u8
     ensures { TellsFrame frame.now answer.old description.old answer.new description.new result }
 {
-    refusal_of(answer_reading(answer, description, read_frame(frame)))
+    number_in(answer_reading(answer, description, in_numbers(read_frame(frame))))
 }
 
 // The most octets of an LLDPDU that are looked at: a start and a length have two octets (X5).
@@ -38,7 +38,7 @@ pub fn tambolune_read_lldpdu(lldpdu: &[u8], answer: &mut [u8], description: &mut
             len: LOOKED_AT,
         },
     );
-    refusal_of(answer_reading(answer, description, read_lldpdu(front)))
+    number_in(answer_reading(answer, description, in_numbers(read_lldpdu(front))))
 }
 
 // Refusals 1, 9, 10. The answer's length is tested before anything is written (X2).
@@ -53,5 +53,5 @@ pub fn tambolune_write(description: &[u8], text: &[u8], output: &mut [u8], answe
         return Refusal::BreaksARule as u8;
     }
     let written = write(description_in(description), text, output);
-    refusal_of(answer_written(answer, written))
+    number_in(answer_written(answer, in_numbers(written)))
 }

@@ -3,9 +3,9 @@
 ghost use Rattle.octet_table.specs.Lent.{lent};
 ghost use Rattle.exports.specs.Calls.{Compares};
 
-use crate::calls::{WRONG_LENGTH, refusal_of};
+use crate::calls::{in_numbers, number_in};
 use compare::compare;
-use octet_answers::{COMPARED, answer_compared};
+use octet_answers::{COMPARED, WRONG_LENGTH, answer_compared};
 use octet_table::{lengths_fit, table_in};
 
 // Refusals 1 and 14. The answer's length is tested before anything is written (X2).
@@ -37,5 +37,5 @@ pub fn tambolune_compare(
     let first = table_in(ports, seconds, lengths, senders);
     let second = table_in(ports2, seconds2, lengths2, senders2);
     let entries = compare(first, buffer, second, buffer2, list);
-    refusal_of(answer_compared(answer, entries))
+    number_in(answer_compared(answer, in_numbers(entries)))
 }

@@ -20,7 +20,7 @@ use Rattle.refusal.specs.Refusal.{refusal_of, numbered}
 use Rattle.refusal.specs.declared.Refusal.{Refusal}
 use Rattle.refusal.specs.declared.NoRefusal.{NoRefusal}
 use Rattle.refusal.specs.declared.Refusal.TheVariants.{Unfit, NoPort, NoFrame, NotAsDue, RunsPast, OutOfPlace, PortFull, CommonTaken, BreaksARule, NoRoom, NoCapture, Torn, ChassisLoud, TooShort}
-use Rattle.octet_answers.specs.Answers.{place_octets, reply_octets}
+use Rattle.octet_answers.specs.Answers.{in_numbers, number_in, back, written_octets, place_octets, reply_octets, compared_octets}
 
 -- octets that are put into a slice of their length are what it then holds
 pub put_whole : (x l : List ℕ) {y : List ℕ} {at : ℕ} → length l ≡ length x → output_at y at ≡ puts x (output_at l 0) → y ≡ x
@@ -45,6 +45,20 @@ one-slice e = ap (λ (l : List ℕ). l ∷ []) e
 pub two-slices : {x y u v : List ℕ} → x ≡ y → u ≡ v → ◌≡◌ {A = List (List ℕ)} (x ∷ u ∷ []) (y ∷ v ∷ [])
 two-slices e f = ap₂ (λ (l m : List ℕ). l ∷ m ∷ []) e f
 
+-- What is handed over in numbers gives the number and the octets that it gives by its refusals
+
+pub written-numbers : (x : Result ℕ Refusal) (a : List ℕ) → back (number_in (in_numbers x)) (written_octets (in_numbers x) a ∷ []) ≡ back (refusal_of x) (written_octets x a ∷ [])
+written-numbers (Ok n) a = refl
+written-numbers (Err r) a = refl
+
+pub reply-numbers : (x : Result Reply Refusal) (a : List ℕ) → back (number_in (in_numbers x)) (reply_octets (in_numbers x) a ∷ []) ≡ back (refusal_of x) (reply_octets x a ∷ [])
+reply-numbers (Ok r) a = refl
+reply-numbers (Err r) a = refl
+
+pub compared-numbers : (x : Result ℕ Refusal) (a : List ℕ) → back (number_in (in_numbers x)) (compared_octets (in_numbers x) a ∷ []) ≡ back (refusal_of x) (compared_octets x a ∷ [])
+compared-numbers (Ok n) a = refl
+compared-numbers (Err r) a = refl
+
 -- An answer's octets tell which one it was
 
 -- the answer to a frame that has a code
@@ -53,7 +67,7 @@ reply_in n =
     pick (eqb n 1) (some Recorded)
     (pick (eqb n 2) (some Refreshed) (pick (eqb n 3) (some Gone) (pick (eqb n 4) (some UnknownGoodbye) none)))
 
-pub reply-back : (r : Reply) (a : List ℕ) → reply_in (get_or (reply_octets (Ok r) a) 0 0) ≡ some r
+pub reply-back : (r : Reply) (a : List ℕ) → reply_in (get_or (reply_octets {E = Refusal} (Ok r) a) 0 0) ≡ some r
 reply-back Recorded a = refl
 reply-back Refreshed a = refl
 reply-back Gone a = refl

@@ -1,14 +1,13 @@
 // The answers on a frame or an LLDPDU that was read, and on an announcement that was written.
 // A verdict stands in front: the length of the LLDPDU, and whether it is HTIP.
-ghost use Rattle.std.specs.Prelude.{◌≡◌, [], ◌∷◌};
-ghost use Rattle.refusal.specs.Refusal.{refusal_of};
+ghost use Rattle.std.specs.Prelude.{◌≡◌, [], ◌∷◌, length, eqb};
 ghost use Rattle.output.specs.Output.{Put};
-ghost use Rattle.octet_answers.specs.Answers.{back, verdict_octets, judged, read_answer, written};
+ghost use Rattle.octet_answers.specs.Answers.{back, number_in, done_if, verdict_octets, judge_right, judged, read_right, read_answer, written_long, written};
 
+use crate::WRONG_LENGTH;
 use octet_description::{SIZE, put_description, put_front, put_two};
 use output::Output;
 use reading::Reading;
-use refusal::Refusal;
 
 // How many octets each answer has (X2).
 pub const JUDGED: usize = 15;
@@ -25,11 +24,13 @@ fn put_verdict(answer: &mut Output, r: Reading)
 }
 
 // The verdict, then chassis, port ID and seconds.
-pub fn answer_judged(answer: &mut [u8], reading: Result<Reading, Refusal>) -> Result<(), Refusal>
-    ensures { back (refusal_of result) (answer.new ∷ []) ≡ judged reading answer.old }
+#[tactic(auto, unfolding(crate::specs::Answers::judged))]
+pub fn answer_judged(answer: &mut [u8], reading: Result<Reading, u8>) -> Result<(), u8>
+    ensures exact { back (number_in result) (answer.new ∷ []) ≡ judged reading answer.old }
+    ensures done { result ≡ done_if (judge_right answer.old) reading }
 {
     if answer.len() != JUDGED {
-        return Err(Refusal::Unfit);
+        return Err(WRONG_LENGTH);
     }
     let r = reading?;
     let mut out = Output::new(answer);
@@ -39,15 +40,17 @@ pub fn answer_judged(answer: &mut [u8], reading: Result<Reading, Refusal>) -> Re
 }
 
 // The verdict, and the whole description in a slice of its own.
+#[tactic(auto, unfolding(crate::specs::Answers::read_answer))]
 pub fn answer_reading(
     answer: &mut [u8],
     description: &mut [u8],
-    reading: Result<Reading, Refusal>,
-) -> Result<(), Refusal>
-    ensures { back (refusal_of result) (answer.new ∷ description.new ∷ []) ≡ read_answer reading answer.old description.old }
+    reading: Result<Reading, u8>,
+) -> Result<(), u8>
+    ensures exact { back (number_in result) (answer.new ∷ description.new ∷ []) ≡ read_answer reading answer.old description.old }
+    ensures done { result ≡ done_if (read_right answer.old description.old) reading }
 {
     if answer.len() != VERDICT || description.len() != SIZE {
-        return Err(Refusal::Unfit);
+        return Err(WRONG_LENGTH);
     }
     let r = reading?;
     put_verdict(&mut Output::new(answer), r);
@@ -56,11 +59,13 @@ pub fn answer_reading(
 }
 
 // How many octets were written.
-pub fn answer_written(answer: &mut [u8], octets: Result<usize, Refusal>) -> Result<(), Refusal>
-    ensures { back (refusal_of result) (answer.new ∷ []) ≡ written octets answer.old }
+#[tactic(auto, unfolding(crate::specs::Answers::written))]
+pub fn answer_written(answer: &mut [u8], octets: Result<usize, u8>) -> Result<(), u8>
+    ensures exact { back (number_in result) (answer.new ∷ []) ≡ written octets answer.old }
+    ensures done { result ≡ done_if (eqb (length answer.old) written_long) octets }
 {
     if answer.len() != WRITTEN {
-        return Err(Refusal::Unfit);
+        return Err(WRONG_LENGTH);
     }
     let n = octets?;
     put_two(&mut Output::new(answer), n);

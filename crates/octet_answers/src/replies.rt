@@ -1,16 +1,15 @@
 // The answers of a table: to a frame on a port, to the two questions, and to a comparison with another table.
 // Those of one octet are a code or a number; who sees an address has a place and two numbers.
-ghost use Rattle.std.specs.Prelude.{◌≡◌, [], ◌∷◌, length};
-ghost use Rattle.refusal.specs.Refusal.{refusal_of};
+ghost use Rattle.std.specs.Prelude.{◌≡◌, [], ◌∷◌, length, eqb};
 ghost use Rattle.output.specs.Output.{Put};
-ghost use Rattle.octet_answers.specs.Answers.{back, sight_long, code_of, replied, counted, number_octets, place_octets, seen, compared_answer};
+ghost use Rattle.octet_answers.specs.Answers.{back, number_in, done_if, reply_long, count_long, sight_long, compared_long, code_of, replied, counted, number_octets, place_octets, seen, compared_answer};
 
+use crate::WRONG_LENGTH;
 use naming::Number;
 use octet_description::put_two;
 use octets::low_of;
 use output::Output;
 use questions::Sight;
-use refusal::Refusal;
 use rules::Reply;
 use whole::clear;
 
@@ -37,21 +36,25 @@ fn code_of(reply: Reply) -> u8
     }
 }
 
-pub fn answer_reply(answer: &mut [u8], reply: Result<Reply, Refusal>) -> Result<(), Refusal>
-    ensures { back (refusal_of result) (answer.new ∷ []) ≡ replied reply answer.old }
+#[tactic(auto, unfolding(crate::specs::Answers::replied))]
+pub fn answer_reply(answer: &mut [u8], reply: Result<Reply, u8>) -> Result<(), u8>
+    ensures exact { back (number_in result) (answer.new ∷ []) ≡ replied reply answer.old }
+    ensures done { result ≡ done_if (eqb (length answer.old) reply_long) reply }
 {
     if answer.len() != REPLY {
-        return Err(Refusal::Unfit);
+        return Err(WRONG_LENGTH);
     }
     answer[0] = code_of(reply?);
     Ok(())
 }
 
-pub fn answer_count(answer: &mut [u8], count: Result<u8, Refusal>) -> Result<(), Refusal>
-    ensures { back (refusal_of result) (answer.new ∷ []) ≡ counted count answer.old }
+#[tactic(auto, unfolding(crate::specs::Answers::counted))]
+pub fn answer_count(answer: &mut [u8], count: Result<u8, u8>) -> Result<(), u8>
+    ensures exact { back (number_in result) (answer.new ∷ []) ≡ counted count answer.old }
+    ensures done { result ≡ done_if (eqb (length answer.old) count_long) count }
 {
     if answer.len() != COUNT {
-        return Err(Refusal::Unfit);
+        return Err(WRONG_LENGTH);
     }
     answer[0] = count?;
     Ok(())
@@ -76,11 +79,13 @@ fn put_sight(answer: &mut [u8], s: Sight)
     put_number(&mut out, s.port);
 }
 
-pub fn answer_sight(answer: &mut [u8], sight: Result<Option<Sight>, Refusal>) -> Result<(), Refusal>
-    ensures { back (refusal_of result) (answer.new ∷ []) ≡ seen sight answer.old }
+#[tactic(auto, unfolding(crate::specs::Answers::seen))]
+pub fn answer_sight(answer: &mut [u8], sight: Result<Option<Sight>, u8>) -> Result<(), u8>
+    ensures exact { back (number_in result) (answer.new ∷ []) ≡ seen sight answer.old }
+    ensures done { result ≡ done_if (eqb (length answer.old) sight_long) sight }
 {
     if answer.len() != SIGHT {
-        return Err(Refusal::Unfit);
+        return Err(WRONG_LENGTH);
     }
     match sight? {
         Some(s) => put_sight(answer, s),
@@ -90,11 +95,13 @@ pub fn answer_sight(answer: &mut [u8], sight: Result<Option<Sight>, Refusal>) ->
 }
 
 // How many entries stand in the list (D3).
-pub fn answer_compared(answer: &mut [u8], entries: Result<usize, Refusal>) -> Result<(), Refusal>
-    ensures { back (refusal_of result) (answer.new ∷ []) ≡ compared_answer entries answer.old }
+#[tactic(auto, unfolding(crate::specs::Answers::compared_answer))]
+pub fn answer_compared(answer: &mut [u8], entries: Result<usize, u8>) -> Result<(), u8>
+    ensures exact { back (number_in result) (answer.new ∷ []) ≡ compared_answer entries answer.old }
+    ensures done { result ≡ done_if (eqb (length answer.old) compared_long) entries }
 {
     if answer.len() != COMPARED {
-        return Err(Refusal::Unfit);
+        return Err(WRONG_LENGTH);
     }
     let n = entries?;
     put_two(&mut Output::new(answer), n);

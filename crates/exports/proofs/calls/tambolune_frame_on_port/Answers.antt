@@ -44,4 +44,4 @@ returns c =
     c.frame_on_port-r.result refl c.if-answer-ne-REPLY.false
     (c.frame_on_port-r.ensures.exact ∙ ap (λ y. heard a.port h (state y b)) c.table_in.ensures)
     (c.frame_on_port-r.ensures.refusal ∙ ap (λ y. refusal_on_frame a.port h (state y b)) c.table_in.ensures)
-    (numbered c.refusal_of.ensures c.answer_reply.ensures)
+    c.in_numbers.ensures (numbered c.number_in.ensures c.answer_reply.ensures.exact)

@@ -28,4 +28,4 @@ returns c =
     count_gives (lent a.ports.now a.seconds.now a.lengths.now a.senders.now) b a.answer.now (sym c.lengths_fit.ensures ∙ c.if-not-lengths_fit.false) a.port _
     (c.how_many-count.ensures.exact ∙ ap (λ y. counted a.port (state y b)) c.table_in.ensures)
     (c.how_many-count.ensures.refusal ∙ ap (λ y. refusal_on_port a.port (state y b)) c.table_in.ensures)
-    (numbered c.refusal_of.ensures c.answer_count.ensures)
+    c.in_numbers.ensures (numbered c.number_in.ensures c.answer_count.ensures.exact)

@@ -38,4 +38,4 @@ returns c =
     sight-gives (lent a.ports.now a.seconds.now a.lengths.now a.senders.now) b a.answer.now (sym c.lengths_fit.ensures ∙ c.if-not-lengths_fit.false) w a.start _ (eq-eqb (length w) address_long c.if-address-ne-ADDRESS.false)
     (c.who_sees-sight.ensures.exact ∙ ap₂ (λ v y. sight v a.start (state y b)) six c.table_in.ensures)
     (c.who_sees-sight.ensures.refusal ∙ ap (λ y. refusal_when_unfit (state y b)) c.table_in.ensures)
-    (numbered c.refusal_of.ensures c.answer_sight.ensures)
+    c.in_numbers.ensures (numbered c.number_in.ensures c.answer_sight.ensures.exact)

@@ -6,4 +6,4 @@ use Rattle.exports.proofs.frames.tambolune_judge.Goals as goal
 pub returns : goal.returns
 returns c =
     let a = c.args in
-    judged-gives _ _ c.read_frame.ensures.exact _ (frame-due a.frame.now c.read_frame.ensures) a.answer.now (numbered c.refusal_of.ensures c.answer_judged.ensures)
+    judged-gives _ _ c.read_frame.ensures.exact c.in_numbers.ensures _ (frame-due a.frame.now c.read_frame.ensures) a.answer.now (numbered c.number_in.ensures c.answer_judged.ensures.exact)

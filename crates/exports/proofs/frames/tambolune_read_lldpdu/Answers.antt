@@ -12,6 +12,6 @@ use Rattle.exports.proofs.frames.tambolune_read_lldpdu.Goals as goal
 pub returns : goal.returns
 returns c =
     let a = c.args in
-    read-gives _ _ (c.read_lldpdu.ensures.exact ∙ ap reading_of c.text_of-front.ensures) _
+    read-gives _ _ (c.read_lldpdu.ensures.exact ∙ ap reading_of c.text_of-front.ensures) c.in_numbers.ensures _
     (lldpdu-due _ c.read_lldpdu.ensures ∙ ap (λ (s : List ℕ). refusal_of (extent_of s)) c.text_of-front.ensures)
-    a.answer.now a.description.now (numbered c.refusal_of.ensures c.answer_reading.ensures)
+    a.answer.now a.description.now (numbered c.number_in.ensures c.answer_reading.ensures.exact)

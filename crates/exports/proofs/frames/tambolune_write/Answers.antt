@@ -38,4 +38,4 @@ returns c =
     written-gives a.description.now a.text.now a.output.now a.answer.now _ _ c.if-answer-ne-WRITTEN.false
     (both_hold (eq-eqb _ _ c.if-description-ne-SIZE.false) (eq-eqb _ _ c.if-answer-ne-WRITTEN.false))
     (sym c.presences_fit.ensures ∙ c.if-not-presences_fit.false)
-    c.description_in.ensures c.write-written.ensures (numbered c.refusal_of.ensures c.answer_written.ensures)
+    c.description_in.ensures c.write-written.ensures c.in_numbers.ensures (numbered c.number_in.ensures c.answer_written.ensures.exact)

@@ -49,4 +49,4 @@ returns c =
     (sym c.lengths_fit.ensures ∙ c.if-not-lengths_fit.false)
     (sym c.lengths_fit-2.ensures ∙ c.if-not-lengths_fit-2.false)
     c.if-answer-ne-COMPARED.false
-    c.table_in-first.ensures c.table_in-second.ensures c.compare-entries.ensures (numbered c.refusal_of.ensures c.answer_compared.ensures)
+    c.table_in-first.ensures c.table_in-second.ensures c.compare-entries.ensures c.in_numbers.ensures (numbered c.number_in.ensures c.answer_compared.ensures.exact)
