@@ -10,7 +10,7 @@ use native.Mathlib.Numerals.{add-one}
 use borrow.Author.Tests.{ne_eqb, eqb-true, eqb-false}
 use borrow.Rule.Slice.PartMut.{mid_of, put_mid}
 use lib.Bits.{bit_or, or_zero_l, or_add_and, and_le_r}
-use lib.ListN.{length, take, drop, get_or, replicate, length-append, length-take, length-replicate, length-drop, get_or-replicate, take-append-drop, drop_of_length-le}
+use lib.ListN.{length, take, drop, get_or, set, replicate, length-append, length-take, length-replicate, length-drop, get_or-replicate, take-append-drop, drop_of_length-le}
 use lib.Seq.{drop-cons, drop-drop, take-nil, take_all, take_at, take-append_seam, length-take-le}
 use lib.Dec.{eqb}
 use Rattle.tally.specs.Tests.{both}
@@ -102,6 +102,16 @@ zeros-overlap s from i h e = go (zeros s) refl
         let k : from + (i - from) ≡ i = omega arith in
         let f : zeros (drop (i - from) (drop from s)) ≡ false = ap zeros (drop-drop (i - from) from s) ∙ ap (λ (j : ℕ). zeros (drop j s)) k ∙ e ∙ q in
         zeros-split (i - from) (drop from s) ∙ ap (both (zeros (take (i - from) (drop from s)))) f ∙ both_false (zeros (take (i - from) (drop from s)))
+
+-- a loop that copies s to the front of d
+copy-suc : (n : ℕ) (s d : List ℕ) → n < length s → n < length d → set (take n s ++ drop n d) n (get_or s n 0) ≡ take (suc n) s ++ drop (suc n) d
+copy-suc n [] d l m = absurd (not-suc-le-zero l)
+copy-suc n (x ∷ s) [] l m = absurd (not-suc-le-zero m)
+copy-suc zero (x ∷ s) (y ∷ d) l m = refl
+copy-suc (suc n) (x ∷ s) (y ∷ d) l m = ap (λ (t : List ℕ). x ∷ t) (copy-suc n s d (le_of_suc-le-suc l) (le_of_suc-le-suc m))
+
+pub copy_more : (n : ℕ) (s d : List ℕ) → n < length s → n < length d → set (take n s ++ drop n d) n (get_or s n 0) ≡ take (n + 1) s ++ drop (n + 1) d
+copy_more n s d l m = rw add-one (copy-suc n s d l m)
 
 -- what fits was copied, and the rest of the place came back as zeros
 take-fewer : (m : ℕ) (s : List ℕ) → take (min m (length s)) s ≡ take m s
