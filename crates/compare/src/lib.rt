@@ -53,10 +53,10 @@ fn put_entry(out: &mut Output, kind: Kind, place: usize)
 }
 
 // The place of a record with the identity of an LLDPDU that was heard on port p, where there is one (N2).
-fn place_in(t: Table, buffer: &[u8], p: u8, l: &[u8]) -> Option<usize>
-    ensures { result ≡ place_found (find (state t buffer.now) (whose_in p l.now)) }
+fn place_in(t: &Table, buffer: &[u8], p: u8, l: &[u8]) -> Option<usize>
+    ensures { result ≡ place_found (find (state t.now buffer.now) (whose_in p l.now)) }
 {
-    place_of(t, buffer, p, l, chassis_of(l), port_of(l))
+    place_of(*t, buffer, p, l, chassis_of(l), port_of(l))
 }
 
 // Whether two records of one identity have the same octets and the same sender.
@@ -67,9 +67,16 @@ fn is_unaltered(l: &[u8], sender: [u8; 6], m: &[u8], other: [u8; 6]) -> bool
 }
 
 // What became of the record in place i of the first table: it left, it was altered, or its seconds alone are others.
-fn put_first(out: &mut Output, first: Table, buffer: &[u8], second: Table, buffer2: &[u8], i: usize)
+fn put_first(
+    out: &mut Output,
+    first: &Table,
+    buffer: &[u8],
+    second: &Table,
+    buffer2: &[u8],
+    i: usize,
+)
     requires { i < places }
-    ensures { Put (octets_of (first_gives (state first buffer.now) (state second buffer2.now) i)) out.old out.new }
+    ensures { Put (octets_of (first_gives (state first.now buffer.now) (state second.now buffer2.now) i)) out.old out.new }
 {
     let kept = first.length[i];
     if kept == 0 {
@@ -90,14 +97,14 @@ fn put_first(out: &mut Output, first: Table, buffer: &[u8], second: Table, buffe
 // Whether the record in place k of the second table joined: the first does not know it.
 fn put_second(
     out: &mut Output,
-    first: Table,
+    first: &Table,
     buffer: &[u8],
-    second: Table,
+    second: &Table,
     buffer2: &[u8],
     k: usize,
 )
     requires { k < places }
-    ensures { Put (octets_of (second_gives (state first buffer.now) (state second buffer2.now) k)) out.old out.new }
+    ensures { Put (octets_of (second_gives (state first.now buffer.now) (state second.now buffer2.now) k)) out.old out.new }
 {
     let kept = second.length[k];
     if kept == 0 {
@@ -111,8 +118,8 @@ fn put_second(
 }
 
 // The first table's records, then those that joined (D2).
-fn put_entries(out: &mut Output, first: Table, buffer: &[u8], second: Table, buffer2: &[u8])
-    ensures { Put (octets_of (entries_between (state first buffer.now) (state second buffer2.now))) out.old out.new }
+fn put_entries(out: &mut Output, first: &Table, buffer: &[u8], second: &Table, buffer2: &[u8])
+    ensures { Put (octets_of (entries_between (state first.now buffer.now) (state second.now buffer2.now))) out.old out.new }
 {
     for i in 0..PLACES {
         put_first(out, first, buffer, second, buffer2, i);
@@ -123,8 +130,8 @@ fn put_entries(out: &mut Output, first: Table, buffer: &[u8], second: Table, buf
 }
 
 // The same in a room of its own; how many octets they are, where they have room.
-fn entries_in(room: &mut [u8], first: Table, buffer: &[u8], second: Table, buffer2: &[u8]) -> usize
-    ensures { output_at room.new result ≡ puts (octets_of (entries_between (state first buffer.now) (state second buffer2.now))) (output_at room.old 0) }
+fn entries_in(room: &mut [u8], first: &Table, buffer: &[u8], second: &Table, buffer2: &[u8]) -> usize
+    ensures { output_at room.new result ≡ puts (octets_of (entries_between (state first.now buffer.now) (state second.now buffer2.now))) (output_at room.old 0) }
 {
     let mut out = Output::new(room);
     put_entries(&mut out, first, buffer, second, buffer2);
@@ -145,7 +152,7 @@ pub fn compare(
         return Err(Refusal::Unfit);
     }
     let mut entries = [0u8; LONGEST];
-    let n = entries_in(&mut entries, first, buffer, second, buffer2);
+    let n = entries_in(&mut entries, &first, buffer, &second, buffer2);
     if list.len() < n {
         return Err(Refusal::TooShort);
     }

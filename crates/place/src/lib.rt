@@ -88,6 +88,8 @@ fn is_from(l: &[u8], text: &[u8], chassis: IdPart, port: IdPart) -> bool
 }
 
 // Whether place i, by its own length and port, has a record with the identity of port p and of two parts of a text (N2).
+// Built in where it is asked: else each place of a search, a free one too, is handed over with both parts of the text.
+#[inline(always)]
 #[tactic(auto, using(crate::proofs::WhoseLaws::of_by))]
 pub fn is_of(
     buffer: &[u8],

@@ -12,4 +12,4 @@ returns c =
     let a = c.args in
     let l = a.l.now in
     c.place_of.ensures
-    ∙ ap₂ (λ (x y : IdPart). place_found (find (state a.t a.buffer.now) (ident a.p (id_meant l x) (id_meant l y)))) c.chassis_of.ensures c.port_of.ensures
+    ∙ ap₂ (λ (x y : IdPart). place_found (find (state a.t.now a.buffer.now) (ident a.p (id_meant l x) (id_meant l y)))) c.chassis_of.ensures c.port_of.ensures

@@ -9,22 +9,22 @@ pub returns-then-kept-eq0 : goal.returns-then-kept-eq0
 unfolding at
 returns-then-kept-eq0 c =
     let a = c.args in
-    put-nothing a.out.now (first-free (state a.first a.buffer.now) (state a.second a.buffer2.now) a.i c.requires c.if-kept-eq0.true)
+    put-nothing a.out.now (first-free (state a.first.now a.buffer.now) (state a.second.now a.buffer2.now) a.i c.requires c.if-kept-eq0.true)
 
 pub returns-in_default : goal.returns-in_default
 unfolding at
 returns-in_default c =
     let a = c.args in
     put-given c.put_entry.ensures
-    (first-left (state a.first a.buffer.now) (state a.second a.buffer2.now) a.i c.requires c.if-kept-eq0.false c.lldpdu_at-l.ensures (sym c.in_default.is ∙ c.place_in.ensures))
+    (first-left (state a.first.now a.buffer.now) (state a.second.now a.buffer2.now) a.i c.requires c.if-kept-eq0.false c.lldpdu_at-l.ensures (sym c.in_default.is ∙ c.place_in.ensures))
 
 -- from here on the second table has the identity, and both records were compared
 pub returns-then-not-is_unaltered : goal.returns-then-not-is_unaltered
 unfolding at
 returns-then-not-is_unaltered c =
     let a = c.args in
-    let one = state a.first a.buffer.now in
-    let two = state a.second a.buffer2.now in
+    let one = state a.first.now a.buffer.now in
+    let two = state a.second.now a.buffer2.now in
     let k = c.in-Some.k in
     put-given c.put_entry-then-not-is_unaltered.ensures
     (first-kept one two a.i c.requires c.if-kept-eq0.false c.lldpdu_at-l.ensures c.in-Some.ensures c.lldpdu_at-m.ensures c.is_unaltered.ensures
@@ -35,7 +35,7 @@ unfolding at
 returns-then-first-i c =
     let a = c.args in
     put-given c.put_entry-then-first-i.ensures
-    (first-kept (state a.first a.buffer.now) (state a.second a.buffer2.now) a.i c.requires c.if-kept-eq0.false c.lldpdu_at-l.ensures c.in-Some.ensures
+    (first-kept (state a.first.now a.buffer.now) (state a.second.now a.buffer2.now) a.i c.requires c.if-kept-eq0.false c.lldpdu_at-l.ensures c.in-Some.ensures
     c.lldpdu_at-m.ensures c.is_unaltered.ensures
     ∙ beside-seconds c.in-Some.k c.if-not-is_unaltered.false c.if-first-i.true)
 
@@ -44,6 +44,6 @@ unfolding at
 returns-else-first-i c =
     let a = c.args in
     put-nothing a.out.now
-    (first-kept (state a.first a.buffer.now) (state a.second a.buffer2.now) a.i c.requires c.if-kept-eq0.false c.lldpdu_at-l.ensures c.in-Some.ensures
+    (first-kept (state a.first.now a.buffer.now) (state a.second.now a.buffer2.now) a.i c.requires c.if-kept-eq0.false c.lldpdu_at-l.ensures c.in-Some.ensures
     c.lldpdu_at-m.ensures c.is_unaltered.ensures
     ∙ beside_same c.in-Some.k c.if-not-is_unaltered.false c.if-first-i.false)

@@ -9,18 +9,18 @@ unfolding at
 returns-then-kept-eq0 c =
     let a = c.args in
     put-nothing a.out.now
-    (second-free (state a.first a.buffer.now) (state a.second a.buffer2.now) a.k c.requires c.if-kept-eq0.true)
+    (second-free (state a.first.now a.buffer.now) (state a.second.now a.buffer2.now) a.k c.requires c.if-kept-eq0.true)
 
 pub returns-in-Some : goal.returns-in-Some
 unfolding at
 returns-in-Some c =
     let a = c.args in
     put-nothing a.out.now
-    (second-known (state a.first a.buffer.now) (state a.second a.buffer2.now) a.k c.requires c.if-kept-eq0.false c.lldpdu_at-l.ensures c.in-Some.ensures)
+    (second-known (state a.first.now a.buffer.now) (state a.second.now a.buffer2.now) a.k c.requires c.if-kept-eq0.false c.lldpdu_at-l.ensures c.in-Some.ensures)
 
 pub returns-in-None : goal.returns-in-None
 unfolding at
 returns-in-None c =
     let a = c.args in
     put-given c.put_entry.ensures
-    (second-joined (state a.first a.buffer.now) (state a.second a.buffer2.now) a.k c.requires c.if-kept-eq0.false c.lldpdu_at-l.ensures c.in-None.ensures)
+    (second-joined (state a.first.now a.buffer.now) (state a.second.now a.buffer2.now) a.k c.requires c.if-kept-eq0.false c.lldpdu_at-l.ensures c.in-None.ensures)
