@@ -88,8 +88,6 @@ fn is_from(l: &[u8], text: &[u8], chassis: IdPart, port: IdPart) -> bool
 }
 
 // Whether place i, by its own length and port, has a record with the identity of port p and of two parts of a text (N2).
-// Built in where it is asked: else each place of a search, a free one too, is handed over with both parts of the text.
-#[inline(always)]
 #[tactic(auto, using(crate::proofs::WhoseLaws::of_by))]
 pub fn is_of(
     buffer: &[u8],
@@ -117,5 +115,10 @@ pub fn place_of(
 ) -> Option<usize>
     ensures { result ≡ place_found (find (state t buffer.now) (ident p (id_meant text.now chassis) (id_meant text.now port))) }
 {
-    (0..PLACES).find(|&i| is_of(buffer, i, t.length[i], t.port[i], p, text, chassis, port))
+    // A free place, and one of another port, is passed before both parts of the text are handed over.
+    (0..PLACES).find(|&i| {
+        t.length[i] != 0
+            && t.port[i] == p
+            && is_of(buffer, i, t.length[i], t.port[i], p, text, chassis, port)
+    })
 }

@@ -11,6 +11,7 @@ use Rattle.ids.specs.Id.{id_meant}
 use Rattle.place.specs.State.{state, at, ident, lldpdu_in, record_is, is_of, find, place_found}
 use Rattle.place.proofs.FoundLaws.{found}
 use Rattle.place.proofs.ThereLaws.{there-of}
+use Rattle.place.proofs.WhoseLaws.{of_by}
 use Rattle.place.proofs.place_of.Goals as goal
 
 pub returns : goal.returns
@@ -22,5 +23,5 @@ returns c =
     let asked : ℕ → Bool = λ k. record_is (at s k).len (at s k).port (lldpdu_in s.buf k (at s k).len) w in
     let first : c.find.result ≡ place_found (find s w) =
     found (is_of s w) asked (λ k l. there-of s k l w) c.find.result
-    (first_from_Range _ _ _ c.find.result (λ k. asked k ≡ true) (λ k. asked k ≡ false) c.find.ensures.ran (λ x q k. search (rules, tests)) (λ x q k. search (rules, tests))) in
+    (first_from_Range _ _ _ c.find.result (λ k. asked k ≡ true) (λ k. asked k ≡ false) c.find.ensures.ran (λ x q k. search (rules, tests)) (λ x q k. search (rules, tests, of_by))) in
     grind (arith, first)
