@@ -130,7 +130,13 @@ fn put_entries(out: &mut Output, first: &Table, buffer: &[u8], second: &Table, b
 }
 
 // The same in a room of its own; how many octets they are, where they have room.
-fn entries_in(room: &mut [u8], first: &Table, buffer: &[u8], second: &Table, buffer2: &[u8]) -> usize
+fn entries_in(
+    room: &mut [u8],
+    first: &Table,
+    buffer: &[u8],
+    second: &Table,
+    buffer2: &[u8],
+) -> usize
     ensures { output_at room.new result ≡ puts (octets_of (entries_between (state first.now buffer.now) (state second.now buffer2.now))) (output_at room.old 0) }
 {
     let mut out = Output::new(room);
