@@ -3,10 +3,11 @@
 use Rattle.std.specs.Prelude.{ℕ, ◌≡◌, List, ◌++◌}
 use Rattle.place.specs.State.{State, state}
 use Rattle.records.specs.declared.Fed.{Fed}
-use Rattle.replay.specs.Calls.{End, ended, replayed}
+use Rattle.replay.specs.Calls.{Replayed, replayed}
 use Rattle.replay.specs.Place.{beginning}
 use Rattle.replay.specs.Feeding.{Moment, moment}
 use Rattle.replay.specs.Promises.{Stands, Listed, Ends}
+use Rattle.play.specs.Numbers.{in_numbers, Shown, shown, shown_of}
 use Rattle.play.specs.declared.Seen.{Seen}
 
 -- where a replay stands, with its record buffer and the buffer of its table
@@ -27,14 +28,16 @@ GoesOn m piece n = (s : State) (port limit : ℕ) (file : List ℕ) → Stands s
 abbrev pub ReadsOn : Moment → Moment → Moment → Moment → Type 0
 ReadsOn m m' n n' = (piece : List ℕ) × (GoesOn m piece n × GoesOn m' piece n')
 
--- behind the last read
+-- behind the last read: said is the answer of the replay, which is kept with the number of its refusal
 pub record Ended (f : Fed) (q : Seen) : Type 0 where
-  pub answer : Ends f.replay q.answer
+  pub said : Replayed
+  pub answer : Ends f.replay said
+  pub numbers : q.answer ≡ in_numbers said
   pub table : q.table ≡ f.table
 
-abbrev pub end_of : Seen → List ℕ → End
-end_of q buffer = ended q.answer (state q.table buffer)
+abbrev pub end_of : Seen → List ℕ → Shown
+end_of q buffer = shown q.answer (state q.table buffer)
 
--- there are octets, the same for both, of which the replays into the tables s and s' give these answers and leave these tables
+-- there are octets, the same for both, of which the replays into the tables s and s' give these answers, in numbers, and leave these tables
 abbrev pub Plays : ℕ → State → ℕ → Seen → List ℕ → State → ℕ → Seen → List ℕ → Type 0
-Plays port s limit q b s' limit' q' b' = (file : List ℕ) × ((end_of q b ≡ replayed s port limit file) × (end_of q' b' ≡ replayed s' port limit' file))
+Plays port s limit q b s' limit' q' b' = (file : List ℕ) × ((end_of q b ≡ shown_of (replayed s port limit file)) × (end_of q' b' ≡ shown_of (replayed s' port limit' file)))

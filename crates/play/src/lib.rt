@@ -5,6 +5,7 @@
 ghost use Rattle.std.specs.Prelude.{◌≡◌, ◌<◌, length};
 ghost use Rattle.place.specs.State.{state};
 ghost use Rattle.replay.specs.Place.{room_octets};
+ghost use Rattle.play.specs.Numbers.{in_numbers};
 ghost use Rattle.play.specs.Reading.{standing, Begins, GoesOn, ReadsOn, Ended, Plays};
 
 mod looks;
@@ -44,10 +45,10 @@ struct Step {
     course: Course,
 }
 
-// What a replay answered at the end of the file, and the table that it left.
+// What a replay answered at the end of the file, with the number of its refusal, and the table that it left.
 #[derive(Clone, Copy)]
 pub struct Seen {
-    pub answer: Result<usize, Refusal>,
+    pub answer: Result<usize, u8>,
     pub table: Table,
 }
 
@@ -73,11 +74,21 @@ fn go_on(f: Fed, buffer: &mut [u8], room: &mut [u8], piece: &[u8]) -> Fed
     feed(f.replay, f.table, buffer, room, piece)
 }
 
+// What is answered, with the number of its refusal.
+pub(crate) fn in_numbers(answer: Result<usize, Refusal>) -> Result<usize, u8>
+    ensures { result ≡ in_numbers answer }
+{
+    match answer {
+        Ok(n) => Ok(n),
+        Err(refusal) => Err(u8::from(refusal)),
+    }
+}
+
 fn ended(f: Fed) -> Seen
     ensures { Ended f result }
 {
     Seen {
-        answer: finish(f.replay),
+        answer: in_numbers(finish(f.replay)),
         table: f.table,
     }
 }

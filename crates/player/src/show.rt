@@ -9,14 +9,13 @@ use numbers::{PLACES, Table};
 use output::Output;
 use place::lldpdu_at;
 use play::Seen;
-use refusal::Refusal;
 use std::io;
 
 // More than the longest line, which has 879 octets (J4): seven for the word, two for the port, five for the seconds in each table, 70 for a local
 // chassis (L3), one for a subtype and 764 for a port ID of 255 octets (L4), 17 for a sender, seven spaces and its end.
 pub(crate) const LINE: usize = 1024;
 
-pub(crate) fn say_refusal(rt: &impl Print, refusal: Refusal) -> io::Result<()> {
+pub(crate) fn say_refusal(rt: &impl Print, refusal: u8) -> io::Result<()> {
     let mut room = [0u8; LINE];
     let mut line = Output::new(&mut room);
     let form = b"refused #\n";
